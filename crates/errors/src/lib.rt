@@ -1,0 +1,83 @@
+// The refusals of document 01, as an enum instead of the crate's message texts (docs/src/src/errors.rs).
+ghost use mathlib.Core.Path.{_≡_};
+ghost use Rattle.errors.specs.Refusals.{numberOf};
+
+// One case for each number of 01's section "Refusals by operation", in its order.
+pub enum Refusal {
+    // Reading tokens.
+    MalformedList,
+    EndsAfterBrace,
+    EndsBeforeClosingBrace,
+    UnexpectedToken,
+    NeitherNameNorBrace,
+    NoName,
+    EndsBeforeConstraint,
+    UnsupportedConstraint,
+    MissingParenthesis,
+    NoKindIdent,
+    UnknownKind,
+    RepeatedName,
+    NinthPlaceholder,
+    // Checking a pair.
+    TemplateConstraint,
+    UndefinedPlaceholder,
+    // Writing raw code, and a match's comments.
+    DoesNotFit,
+    // Building rules.
+    NoForm,
+    // Trees with facts.
+    TreeTooLarge,
+    MalformedTree,
+    TreeTooDeep,
+    MalformedFacts,
+    // Resolving.
+    UnresolvedPath,
+    // Matching one node.
+    NoSuchNodeOrRule,
+    // A job and the whole-file walk.
+    TooManyRulesOrCandidates,
+    NoSuchCandidate,
+    RepeatedCandidate,
+    NoTemplate,
+    MalformedParses,
+    UnboundPlaceholder,
+    NoRoom,
+}
+
+// The refusal's number in document 01.
+pub fn number_of(refusal: Refusal) -> u32
+    ensures { λ r. ⌜ r ≡ numberOf refusal ⌝ }
+{
+    match refusal {
+        Refusal::MalformedList => 1,
+        Refusal::EndsAfterBrace => 2,
+        Refusal::EndsBeforeClosingBrace => 3,
+        Refusal::UnexpectedToken => 4,
+        Refusal::NeitherNameNorBrace => 5,
+        Refusal::NoName => 6,
+        Refusal::EndsBeforeConstraint => 7,
+        Refusal::UnsupportedConstraint => 8,
+        Refusal::MissingParenthesis => 9,
+        Refusal::NoKindIdent => 10,
+        Refusal::UnknownKind => 11,
+        Refusal::RepeatedName => 12,
+        Refusal::NinthPlaceholder => 13,
+        Refusal::TemplateConstraint => 14,
+        Refusal::UndefinedPlaceholder => 15,
+        Refusal::DoesNotFit => 16,
+        Refusal::NoForm => 17,
+        Refusal::TreeTooLarge => 18,
+        Refusal::MalformedTree => 19,
+        Refusal::TreeTooDeep => 20,
+        Refusal::MalformedFacts => 21,
+        Refusal::UnresolvedPath => 22,
+        Refusal::NoSuchNodeOrRule => 23,
+        Refusal::TooManyRulesOrCandidates => 24,
+        Refusal::NoSuchCandidate => 25,
+        Refusal::RepeatedCandidate => 26,
+        Refusal::NoTemplate => 27,
+        Refusal::MalformedParses => 28,
+        Refusal::UnboundPlaceholder => 29,
+        Refusal::NoRoom => 30,
+    }
+}

@@ -1,0 +1,97 @@
+-- Laws of the output buffer: what laying answers, lengths, two writes as one, and how a result laid at the front fills the buffer.
+-- Assumes nothing.
+use mathlib.Core.Path.{_≡_, refl, sym, ap, _∙_}
+use mathlib.Core.Bool.{Bool, true, false, cond}
+use mathlib.Core.List.{List, [], _∷_, _++_, append-assoc, append-nil}
+use Prim.Native.Nat.{ℕ, _+_, _-_, _<_, _≤_}
+use native.Mathlib.Nat.{add-assoc}
+use native.Mathlib.Omega.{arith}
+use lib.Dec.{leb}
+use lib.ListN.{length, take, drop, replicate, length-append, length-take, length-drop, length-replicate, drop-of-length-le}
+use lib.Seq.{take-at, drop-at, drop-drop, take-all, length-take-le}
+use borrow.Author.Tests.{le-leb, lt-leb, leb-true, leb-false}
+use Rattle.words.specs.declared.buffer.Placed.{Placed}
+use Rattle.words.specs.declared.buffer.Placed.the-variants.{At, Full}
+use Rattle.words.specs.Buffer.{usedOf, padded, filled, laid, placeAfter, laidIfRoom}
+
+-- ---- laying
+
+inv-at : (b : Bool) (m n : ℕ) → cond b (At m) Full ≡ At n → (b ≡ true) × (m ≡ n)
+inv-at true m n h = (refl, cc)
+inv-at false m n h = absurd (let z : _≡_ {A = ℕ} 0 1 = cc in omega arith)
+
+inv-full : (b : Bool) (m : ℕ) → cond b (At m) Full ≡ Full → b ≡ false
+inv-full true m h = absurd (let z : _≡_ {A = ℕ} 0 1 = cc in omega arith)
+inv-full false m h = refl
+
+module _ (d : List ℕ) (at : ℕ) (bs : List ℕ) where
+  head-length : at + length bs ≤ length d → length (take at d ++ bs) ≡ at + length bs
+  head-length h = length-append (take at d) bs ∙ ap (λ (k : ℕ). k + length bs) (length-take-le at d (omega arith))
+
+  pub room : at + length bs ≤ length d → (At (at + length bs) ≡ placeAfter (length d) at (length bs)) × (laid d at bs ≡ laidIfRoom d at bs)
+  room h = rw (le-leb (at + length bs) (length d) h) (refl, refl)
+
+  pub no-room : length d < at + length bs → (Full ≡ placeAfter (length d) at (length bs)) × (d ≡ laidIfRoom d at bs)
+  no-room h = rw (lt-leb (at + length bs) (length d) h) (refl, refl)
+
+  -- it fitted
+  pub placed-at : (n : ℕ) → placeAfter (length d) at (length bs) ≡ At n → (at + length bs ≡ n) × (at + length bs ≤ length d) × (laidIfRoom d at bs ≡ laid d at bs)
+  placed-at n h =
+      let i = inv-at (leb (at + length bs) (length d)) (at + length bs) n h in
+      (i .1, leb-true _ _ (i .0), rw (i .0))
+
+  -- it did not, and nothing was written
+  pub placed-full : placeAfter (length d) at (length bs) ≡ Full → (length d < at + length bs) × (laidIfRoom d at bs ≡ d)
+  placed-full h =
+      let i = inv-full (leb (at + length bs) (length d)) (at + length bs) h in
+      (leb-false _ _ i, rw i)
+
+  pub length-laid : at + length bs ≤ length d → length (laid d at bs) ≡ length d
+  length-laid h =
+      let e : length (take at d) ≡ at = length-take-le at d (omega arith) in
+      simp (length-append, length-drop) (omega arith)
+
+  -- what stands up to the place behind the bytes
+  pub take-laid : at + length bs ≤ length d → take (at + length bs) (laid d at bs) ≡ take at d ++ bs
+  take-laid h = take-at (take at d ++ bs) (drop (at + length bs) d) (at + length bs) (head-length h)
+
+  -- a second write where the first ended: the two are one
+  pub laid-laid : (ys : List ℕ) → at + length bs ≤ length d → laid (laid d at bs) (at + length bs) ys ≡ laid d at (bs ++ ys)
+  laid-laid ys h =
+      rw (
+        take-laid h,
+        ← drop-drop (length ys) (at + length bs) (laid d at bs),
+        drop-at (take at d ++ bs) (drop (at + length bs) d) (at + length bs) (head-length h),
+        drop-drop (length ys) (at + length bs) d,
+        length-append bs ys,
+        add-assoc at (length bs) (length ys),
+        append-assoc (take at d) bs ys,
+      )
+
+-- ---- clearing from a place on
+
+pub cleared-tail : (d ys : List ℕ) (at : ℕ) → ys ≡ replicate (length (take (length d - at) (drop at d))) 0 → take at d ++ (ys ++ drop (length d - at) (drop at d)) ≡ take at d ++ replicate (length d - at) 0
+cleared-tail d ys at h =
+    let k : length (drop at d) ≤ length d - at = omega (arith, length-drop at d) in
+    let m : length (take (length d - at) (drop at d)) ≡ length d - at = length-take-le (length d - at) (drop at d) (omega (arith, length-drop at d)) in
+    rw (h, m, drop-of-length-le (drop at d) k, append-nil)
+
+pub cleared-none : (d : List ℕ) (at : ℕ) → length d ≤ at → d ≡ take at d ++ replicate (length d - at) 0
+cleared-none d at h =
+    let z : length d - at ≡ 0 = omega arith in
+    rw (z, take-all at d h, append-nil)
+
+-- ---- the used part
+
+used-by : (b : Bool) (n : ℕ) → leb n 1048576 ≡ b → cond b n 1048576 ≤ n
+used-by true n h = omega arith
+used-by false n h = omega (arith, leb-false n 1048576 h)
+
+pub used-within : (n : ℕ) → usedOf n ≤ n
+used-within n = used-by (leb n 1048576) n refl
+
+-- the first n bytes of a part of u bytes, with 0 behind them, are padded
+pub ending : (d : List ℕ) (u n : ℕ) → length d ≡ u → take n d ++ replicate (length d - n) 0 ≡ padded u (take n d)
+ending d u n h =
+    let e : length d - n ≡ u - length (take n d) = simp length-take (omega arith) in
+    rw e

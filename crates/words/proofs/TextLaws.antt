@@ -1,0 +1,71 @@
+-- Laws of parts and of the comparison of texts.
+-- Assumes nothing.
+use mathlib.Core.Path.{_≡_, refl, sym, ap, _∙_}
+use mathlib.Core.Bool.{Bool, true, false, _&&_, and-false}
+use mathlib.Core.List.{List, [], _∷_, _++_}
+use Prim.Native.Nat.{ℕ, suc, _+_, _-_, _<_, _≤_}
+use native.Mathlib.Numerals.{add-one}
+use native.Mathlib.Omega.{arith}
+use lib.Dec.{eqb, leb}
+use lib.ListN.{length, getD, take, drop, drop-of-length-le}
+use lib.Seq.{drop-cons, take-all}
+use borrow.Author.Tests.{eqb-true, eq-eqb, le-leb, lt-leb}
+use Rattle.words.specs.Texts.{part, sameText, hasPrefix}
+
+-- ---- a part
+
+module _ (t : List ℕ) (start end : ℕ) where
+  pub part-in : start ≤ end → end ≤ length t → part t start end ≡ take (end - start) (drop start t)
+  unfolding part
+  part-in h k = rw (le-leb start end h, le-leb end (length t) k)
+
+  pub part-reversed : end < start → part t start end ≡ []
+  unfolding part
+  part-reversed h = rw (lt-leb start end h)
+
+  pub part-outside : length t < end → part t start end ≡ []
+  unfolding part
+  part-outside h = rw (lt-leb end (length t) h, and-false (leb start end))
+
+-- ---- a loop from the front
+
+pub same-step : (x y : List ℕ) (i : ℕ) → i < length x → i < length y → sameText (drop i x) (drop i y) ≡ (eqb (getD x i 0) (getD y i 0) && sameText (drop (i + 1) x) (drop (i + 1) y))
+unfolding sameText
+same-step x y i h k = rw (add-one, drop-cons x i 0, drop-cons y i 0)
+
+pub same-end : (x y : List ℕ) (i : ℕ) → length x ≤ i → length y ≤ i → sameText (drop i x) (drop i y) ≡ true
+unfolding sameText
+same-end x y i h k = rw (drop-of-length-le x h, drop-of-length-le y k)
+
+pub same-lengths : (x y : List ℕ) → (length x ≡ length y → ⊥) → sameText x y ≡ false
+unfolding sameText
+same-lengths [] [] n = absurd (n refl)
+same-lengths [] (b ∷ y) n = refl
+same-lengths (a ∷ x) [] n = refl
+same-lengths (a ∷ x) (b ∷ y) n = rw (same-lengths x y (λ e. n (ap suc e))) (and-false (eqb a b))
+
+-- a text that is shorter than a prefix does not begin with it
+pub prefix-short : (p t : List ℕ) → length t < length p → hasPrefix p t ≡ false
+prefix-short p t h = rw (take-all (length p) t (omega arith)) (same-lengths t p (λ e. omega arith))
+
+-- ---- two texts are the same exactly if they are equal
+
+and-both : (a b : Bool) → (a && b) ≡ true → (a ≡ true) × (b ≡ true)
+and-both true b h = (refl, h)
+and-both false b h = absurd (let z : _≡_ {A = ℕ} 0 1 = cc in omega arith)
+
+pub same-equal : (x y : List ℕ) → sameText x y ≡ true → x ≡ y
+unfolding sameText
+same-equal [] [] h = refl
+same-equal [] (b ∷ y) h = absurd (let z : _≡_ {A = ℕ} 0 1 = cc in omega arith)
+same-equal (a ∷ x) [] h = absurd (let z : _≡_ {A = ℕ} 0 1 = cc in omega arith)
+same-equal (a ∷ x) (b ∷ y) h =
+    let p = and-both (eqb a b) (sameText x y) h in
+    let e : a ≡ b = eqb-true a b (p .0) in
+    let r : x ≡ y = same-equal x y (p .1) in
+    cc
+
+pub equal-same : (x : List ℕ) → sameText x x ≡ true
+unfolding sameText
+equal-same [] = refl
+equal-same (a ∷ x) = rw (eq-eqb a a refl, equal-same x)
