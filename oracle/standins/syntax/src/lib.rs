@@ -1,0 +1,14 @@
+//! Stand-in for rust-analyzer's `syntax`: trees, texts and facts come from document 01's words.
+//! Only what the crate's files use is here, under the crate's names.
+
+pub mod ast;
+mod kind;
+mod node;
+pub mod steps;
+mod text;
+pub mod tree;
+
+pub use ast::AstNode;
+pub use kind::SyntaxKind;
+pub use node::{SyntaxElement, SyntaxElementChildren, SyntaxNode, SyntaxToken};
+pub use text::{SmolStr, TextRange, TextSize};
