@@ -1,6 +1,8 @@
 -- Document 01, "Refusals by operation": the number of each refusal. Every answer and every promise takes its number from here.
 -- Assumes nothing.
 use Prim.Native.Nat.{ℕ}
+use mathlib.Core.Bool.{cond}
+use lib.Dec.{leb}
 use Rattle.errors.specs.declared.Refusal.{Refusal}
 use Rattle.errors.specs.declared.Refusal.the-variants.{MalformedList, EndsAfterBrace, EndsBeforeClosingBrace, UnexpectedToken, NeitherNameNorBrace, NoName, EndsBeforeConstraint, UnsupportedConstraint, MissingParenthesis, NoKindIdent, UnknownKind, RepeatedName, NinthPlaceholder, TemplateConstraint, UndefinedPlaceholder, DoesNotFit, NoForm, TreeTooLarge, MalformedTree, TreeTooDeep, MalformedFacts, UnresolvedPath, NoSuchNodeOrRule, TooManyRulesOrCandidates, NoSuchCandidate, RepeatedCandidate, NoTemplate, MalformedParses, UnboundPlaceholder, NoRoom}
 
@@ -43,3 +45,7 @@ numberOf NoTemplate = 27  -- a rule without template
 numberOf MalformedParses = 28  -- parses malformed or kind and text repeated
 numberOf UnboundPlaceholder = 29  -- a template placeholder unbound
 numberOf NoRoom = 30  -- the next byte does not fit
+
+-- "Where several lists, rules or trees refuse, the lowest of their numbers is given."
+abbrev pub lowerOf : Refusal → Refusal → Refusal
+lowerOf a b = cond (leb (numberOf a) (numberOf b)) a b

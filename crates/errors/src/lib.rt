@@ -1,6 +1,6 @@
 // The refusals of document 01, as an enum instead of the crate's message texts (docs/src/src/errors.rs).
 ghost use mathlib.Core.Path.{_≡_};
-ghost use Rattle.errors.specs.Refusals.{numberOf};
+ghost use Rattle.errors.specs.Refusals.{numberOf, lowerOf};
 
 // One case for each number of 01's section "Refusals by operation", in its order.
 pub enum Refusal {
@@ -80,4 +80,14 @@ pub fn number_of(refusal: Refusal) -> u32
         Refusal::UnboundPlaceholder => 29,
         Refusal::NoRoom => 30,
     }
+}
+
+// The refusal with the lower number, where two refuse.
+pub fn lower(a: Refusal, b: Refusal) -> Refusal
+    ensures { λ r. ⌜ r ≡ lowerOf a b ⌝ }
+{
+    if number_of(a) <= number_of(b) {
+        return a;
+    }
+    b
 }

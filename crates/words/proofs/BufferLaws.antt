@@ -95,3 +95,10 @@ pub ending : (d : List ℕ) (u n : ℕ) → length d ≡ u → take n d ++ repli
 ending d u n h =
     let e : length d - n ≡ u - length (take n d) = simp length-take (omega arith) in
     rw e
+
+-- an operation that left e in the used part of d, the first n bytes of it its result, and then ended
+pub ended : (d e bs : List ℕ) (n : ℕ) → length e ≡ usedOf (length d) → take n e ≡ bs → filled (e ++ drop (usedOf (length d)) d) (take n (take (usedOf (length (e ++ drop (usedOf (length d)) d))) (e ++ drop (usedOf (length d)) d))) ≡ filled d bs
+ended d e bs n h k =
+    let u = usedOf (length d) in
+    let l : length (e ++ drop u d) ≡ length d = length-append e (drop u d) ∙ omega (arith, h, length-drop u d, used-within (length d)) in
+    rw (l, take-at e (drop u d) u h, drop-at e (drop u d) u h, k)

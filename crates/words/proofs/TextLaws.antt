@@ -1,14 +1,14 @@
 -- Laws of parts and of the comparison of texts.
 -- Assumes nothing.
 use mathlib.Core.Path.{_≡_, refl, sym, ap, _∙_}
-use mathlib.Core.Bool.{Bool, true, false, _&&_, and-false}
+use mathlib.Core.Bool.{Bool, true, false, cond, _&&_, and-false}
 use mathlib.Core.List.{List, [], _∷_, _++_}
 use Prim.Native.Nat.{ℕ, suc, _+_, _-_, _<_, _≤_}
 use native.Mathlib.Numerals.{add-one}
 use native.Mathlib.Omega.{arith}
 use lib.Dec.{eqb, leb}
 use lib.ListN.{length, getD, take, drop, drop-of-length-le}
-use lib.Seq.{drop-cons, take-all}
+use lib.Seq.{drop-cons, drop-drop, take-all, take-add}
 use borrow.Author.Tests.{eqb-true, eq-eqb, le-leb, lt-leb}
 use Rattle.words.specs.Texts.{part, sameText, hasPrefix}
 
@@ -26,6 +26,23 @@ module _ (t : List ℕ) (start end : ℕ) where
   pub part-outside : length t < end → part t start end ≡ []
   unfolding part
   part-outside h = rw (lt-leb end (length t) h, and-false (leb start end))
+
+either-none : (b : Bool) → cond {A = List ℕ} b [] [] ≡ []
+either-none true = refl
+either-none false = refl
+
+pub part-none : (t : List ℕ) (n : ℕ) → part t n n ≡ []
+unfolding part
+part-none t n =
+    let e : n - n ≡ 0 = omega arith in
+    rw e (either-none (leb n n && leb n (length t)))
+
+-- two parts that touch are one
+pub part-join : (t : List ℕ) (a b c : ℕ) → a ≤ b → b ≤ c → c ≤ length t → part t a b ++ part t b c ≡ part t a c
+part-join t a b c h k l =
+    let e : c - a ≡ b - a + (c - b) = omega arith in
+    let f : a + (b - a) ≡ b = omega arith in
+    rw (part-in t a b h (omega arith), part-in t b c k l, part-in t a c (omega arith) l, e, take-add (b - a) (c - b) (drop a t), drop-drop (b - a) a t, f)
 
 -- ---- a loop from the front
 

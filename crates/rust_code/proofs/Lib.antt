@@ -1,0 +1,3 @@
+-- Laws of raw code.
+pub mod Laws
+pub mod CodeLaws

@@ -1,0 +1,2 @@
+pub mod RawCode
+pub mod Segments

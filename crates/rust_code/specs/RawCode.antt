@@ -1,0 +1,44 @@
+-- Writing raw code, document 01: "placeholders as `__placeholder_` and the name: 16 does not fit."
+-- Assumes nothing.
+use Prim.Native.Nat.{ℕ}
+use mathlib.Core.Bool.{cond}
+use mathlib.Core.List.{List, [], _∷_, _++_}
+use lib.Dec.{leb}
+use lib.ListN.{length}
+use Rattle.errors.specs.declared.Refusal.{Refusal}
+use Rattle.errors.specs.declared.Refusal.the-variants.{DoesNotFit}
+use Rattle.errors.specs.Refusals.{numberOf}
+use Rattle.words.specs.Texts.{standInPrefix}
+use Rattle.tokens.specs.Tokens.{tokenText}
+use Rattle.parsing.specs.Reading.{Element, plain, placeholder, Reading, read, refused}
+use Rattle.rust_code.specs.declared.Written.{Written}
+use Rattle.rust_code.specs.declared.Written.the-variants.{Length, Refused}
+
+-- an element of a read list as Rust code
+abbrev pub elementCode : List ℕ → Element → List ℕ
+elementCode text (plain t) = tokenText text t
+elementCode text (placeholder v) = standInPrefix ++ tokenText text (v .name)
+
+-- the raw code of a read list
+unfoldable pub rawCode : List ℕ → List Element → List ℕ
+rawCode text [] = []
+rawCode text (e ∷ es) = elementCode text e ++ rawCode text es
+
+-- the answer in a buffer of which n bytes are used, and the bytes written
+abbrev pub codeAnswer : ℕ → List ℕ → Reading → Written
+codeAnswer n text (refused r) = Refused r
+codeAnswer n text (read es) = cond (leb (length (rawCode text es)) n) (Length (length (rawCode text es))) (Refused DoesNotFit)
+
+abbrev pub codeBytes : ℕ → List ℕ → Reading → List ℕ
+codeBytes n text (refused r) = []
+codeBytes n text (read es) = cond (leb (length (rawCode text es)) n) (rawCode text es) []
+
+-- 01's number of an answer, 0 where the code was written
+abbrev pub writtenNumber : Written → ℕ
+writtenNumber (Length n) = 0
+writtenNumber (Refused r) = numberOf r
+
+-- the length of the code, 0 where there is none
+abbrev pub writtenLength : Written → ℕ
+writtenLength (Length n) = n
+writtenLength (Refused r) = 0
