@@ -1,0 +1,2 @@
+-- The theorem of the starred examples.
+pub mod Theorem
