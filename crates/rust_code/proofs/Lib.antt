@@ -1,3 +1,4 @@
 -- Laws of raw code.
 pub mod Laws
 pub mod CodeLaws
+pub mod StandInLaws

@@ -1,2 +1,3 @@
 pub mod RawCode
 pub mod Segments
+pub mod StandIns

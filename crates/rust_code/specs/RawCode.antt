@@ -8,16 +8,16 @@ use lib.ListN.{length}
 use Rattle.errors.specs.declared.Refusal.{Refusal}
 use Rattle.errors.specs.declared.Refusal.the-variants.{DoesNotFit}
 use Rattle.errors.specs.Refusals.{numberOf}
-use Rattle.words.specs.Texts.{standInPrefix}
 use Rattle.tokens.specs.Tokens.{tokenText}
 use Rattle.parsing.specs.Reading.{Element, plain, placeholder, Reading, read, refused}
+use Rattle.rust_code.specs.StandIns.{standInName}
 use Rattle.rust_code.specs.declared.Written.{Written}
 use Rattle.rust_code.specs.declared.Written.the-variants.{Length, Refused}
 
 -- an element of a read list as Rust code
 abbrev pub elementCode : List ℕ → Element → List ℕ
 elementCode text (plain t) = tokenText text t
-elementCode text (placeholder v) = standInPrefix ++ tokenText text (v .name)
+elementCode text (placeholder v) = standInName text v
 
 -- the raw code of a read list
 unfoldable pub rawCode : List ℕ → List Element → List ℕ

@@ -9,13 +9,14 @@ use words::buffer::Placed;
 use words::texts;
 ghost use mathlib.Core.Path.{_≡_};
 ghost use mathlib.Core.List.{List};
-ghost use Prim.Native.Nat.{_≤_};
+ghost use Prim.Native.Nat.{ℕ};
 ghost use lib.ListN.{length, take};
 ghost use Rattle.words.specs.Buffer.{usedOf, filled};
-ghost use Rattle.parsing.specs.Reading.{reading};
-ghost use Rattle.parsing.specs.Answers.{Eight};
+ghost use Rattle.parsing.specs.Reading.{Var, reading};
+ghost use Rattle.parsing.specs.Answers.{Eight, patternOf};
 ghost use Rattle.rust_code.specs.RawCode.{codeAnswer, codeBytes};
 ghost use Rattle.rust_code.specs.Segments.{segment, segments, Lays, Writes};
+ghost use Rattle.rust_code.specs.StandIns.{standInIndex};
 
 // The length of the raw code, or the refusal.
 pub enum Written {
@@ -90,4 +91,15 @@ pub fn as_rust_code(words: &[u32], text: &[u8], out: &mut [u8]) -> Written
             Written::Refused(r)
         }
     }
+}
+
+// Whether a text is a stand-in name: the number of its placeholder, or how many there are where it is none.
+pub fn find_stand_in(text: &[u8], pattern: Pattern, x: &[u8]) -> usize
+    requires { ⌜ Eight pattern ⌝ }
+    ensures { λ r. ⌜ ((vs : List Var) (ns : List ℕ) → pattern ≡ patternOf vs ns → r ≡ standInIndex (now (text .entry)) vs (now (x .entry))) ⌝ }
+{
+    if texts::has_stand_in_prefix(x) {
+        return patterns::find_name(text, pattern, texts::part_of(x, 14, x.len()));
+    }
+    pattern.count
 }

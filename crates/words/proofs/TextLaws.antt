@@ -1,15 +1,15 @@
 -- Laws of parts and of the comparison of texts.
 -- Assumes nothing.
 use mathlib.Core.Path.{_≡_, refl, sym, ap, _∙_}
-use mathlib.Core.Bool.{Bool, true, false, cond, _&&_, and-false}
+use mathlib.Core.Bool.{Bool, true, false, cond, _&&_, and-false, and-assoc}
 use mathlib.Core.List.{List, [], _∷_, _++_}
 use Prim.Native.Nat.{ℕ, suc, _+_, _-_, _<_, _≤_}
 use native.Mathlib.Numerals.{add-one}
 use native.Mathlib.Omega.{arith}
-use lib.Dec.{eqb, leb}
+use lib.Dec.{eqb, leb, ltb}
 use lib.ListN.{length, getD, take, drop, drop-of-length-le}
 use lib.Seq.{drop-cons, drop-drop, take-all, take-add}
-use borrow.Author.Tests.{eqb-true, eq-eqb, le-leb, lt-leb}
+use borrow.Author.Tests.{eqb-true, eqb-false, eq-eqb, ne-eqb, le-leb, lt-leb, ltb-true, ltb-false}
 use Rattle.words.specs.Texts.{part, sameText, hasPrefix}
 
 -- ---- a part
@@ -86,3 +86,26 @@ pub equal-same : (x : List ℕ) → sameText x x ≡ true
 unfolding sameText
 equal-same [] = refl
 equal-same (a ∷ x) = rw (eq-eqb a a refl, equal-same x)
+
+-- ---- a text that begins with another
+
+eqb-sym : (a b : ℕ) → eqb a b ≡ eqb b a
+eqb-sym a b = by (eqb a b) refl
+  where
+    by : (x : Bool) → eqb a b ≡ x → eqb a b ≡ eqb b a
+    by true e = e ∙ sym (eq-eqb b a (sym (eqb-true a b e)))
+    by false e = e ∙ sym (ne-eqb b a (λ f. eqb-false a b e (sym f)))
+
+-- a text is two others in turn exactly if it begins with the first and the second is the rest
+pub same-append : (p x t : List ℕ) → sameText (p ++ x) t ≡ (hasPrefix p t && sameText x (drop (length p) t))
+unfolding sameText
+same-append [] x t = refl
+same-append (a ∷ p) x [] = refl
+same-append (a ∷ p) x (b ∷ t) = rw (eqb-sym a b, same-append p x t) (sym (and-assoc (eqb b a) (sameText (take (length p) t) p) (sameText x (drop (length p) t))))
+
+pub prefix-long : (p t : List ℕ) → hasPrefix p t ≡ true → length p ≤ length t
+prefix-long p t h = by (ltb (length t) (length p)) refl
+  where
+    by : (b : Bool) → ltb (length t) (length p) ≡ b → length p ≤ length t
+    by true e = absurd (let f = prefix-short p t (ltb-true _ _ e) in let z : _≡_ {A = ℕ} 0 1 = cc in omega arith)
+    by false e = ltb-false _ _ e
