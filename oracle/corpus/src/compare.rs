@@ -6,7 +6,7 @@ use judge::judge;
 use judge::predicates::{Difference, Shape, of_matches, of_rules};
 use ssr::{Finder, MissingParse, Rendering, Stopped, Workspace, check_pair};
 
-use crate::case::{Case, CaseAnswer, CaseMatch};
+use corpus::case::{Case, CaseAnswer, CaseMatch};
 
 /// How a case compares: nothing if equal, else what differs; and the predicates that cover it.
 /// The judge has document 01's differences in it, so it is held to the very bytes.

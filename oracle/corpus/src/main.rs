@@ -2,9 +2,7 @@
 //! or from standard input. Ends with a summary line and, where a difference is neither equal nor
 //! listed, with a status that is not zero.
 
-mod case;
 mod compare;
-mod json;
 #[cfg(test)]
 mod tests;
 
@@ -14,6 +12,7 @@ use std::process::ExitCode;
 use std::time::{Duration, Instant};
 
 use compare::Comparison;
+use corpus::{case, json};
 use judge::predicates::DIFFERENCES;
 
 /// Cases that take longer than this are named.

@@ -2,9 +2,9 @@
 
 use input::{Binding, Kept, Matched, Pair, RuleTree, words};
 
-use crate::case::read_case;
 use crate::compare::compare;
-use crate::json;
+use corpus::case::read_case;
+use corpus::json;
 use judge::predicates::{Difference, Shape, of_matches, of_rules};
 
 /// `1 ==>> 2` on `1`: what is handed in.

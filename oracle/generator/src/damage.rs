@@ -83,7 +83,8 @@ fn damage_job(rng: &mut Rng, job: &mut Job) {
     }
 }
 
-fn damage_list(rng: &mut Rng, list: &mut TokenList) {
+/// Damages a token list.
+pub fn damage_list(rng: &mut Rng, list: &mut TokenList) {
     match rng.below(20) {
         0..=7 if !list.words.is_empty() => {
             // Another kind for a token: the list stays well-formed.
@@ -229,7 +230,7 @@ fn bent(rng: &mut Rng, word: u32) -> u32 {
 }
 
 /// Damages a text.
-fn bytes(rng: &mut Rng, bytes: &mut Vec<u8>) {
+pub fn bytes(rng: &mut Rng, bytes: &mut Vec<u8>) {
     if bytes.is_empty() {
         bytes.push(b'!');
         return;

@@ -8,6 +8,7 @@ mod grammar;
 mod jobs;
 mod kinds;
 mod limits;
+mod lists;
 mod pairs;
 mod parse;
 mod parts;
@@ -40,10 +41,11 @@ pub enum Class {
     Damaged,
     Limits,
     Costly,
+    Lists,
 }
 
 /// All classes, with their names and what they hold.
-pub const CLASSES: [(Class, &str, &str); 14] = [
+pub const CLASSES: [(Class, &str, &str); 15] = [
     (Class::TokensAll, "tokens-all", "all token lists of a prefix and up to four tokens"),
     (Class::Tokens, "tokens", "random token lists: read, checked as a pair, written out"),
     (Class::TinySequence, "tiny-sequence", "all small patterns against all small codes"),
@@ -58,6 +60,7 @@ pub const CLASSES: [(Class, &str, &str); 14] = [
     (Class::Damaged, "damaged", "damaged copies of the random classes"),
     (Class::Limits, "limits", "at the limits and one beyond"),
     (Class::Costly, "costly", "cases that are exponential in the crate itself"),
+    (Class::Lists, "lists", "reading bent token lists, and lists at the limits"),
 ];
 
 impl Class {
@@ -102,6 +105,7 @@ pub fn case(class: Class, seed: u64, index: u64) -> Option<Operation> {
         Class::Damaged => damage::random(rng),
         Class::Limits => limits::case(index),
         Class::Costly => limits::costly_case(index),
+        Class::Lists => lists::random(rng),
     })
 }
 

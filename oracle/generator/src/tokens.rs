@@ -92,7 +92,7 @@ fn raw_buffer(rng: &mut Rng, list: &TokenList) -> usize {
 }
 
 /// Plain tokens and placeholders, most of them whole.
-fn soup(rng: &mut Rng, template: bool) -> TokenList {
+pub fn soup(rng: &mut Rng, template: bool) -> TokenList {
     let names = ["a", "b", "c", "d", "e", "f", "kind", "not", "ab", "literal"];
     let mut tokens: Vec<Token> = Vec::new();
     let pieces = match rng.below(200) {

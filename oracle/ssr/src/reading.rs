@@ -5,7 +5,7 @@ use std::rc::Rc;
 
 use ide_db::FxHashMap;
 use input::{Placeholder, TokenList, words};
-use parser::Tokens;
+use parser::{Edition, LexedStr, Tokens};
 use syntax::tree::Tree;
 use syntax::{SmolStr, SyntaxKind};
 
@@ -99,6 +99,26 @@ pub fn check_pair(pattern: &TokenList, template: Option<&TokenList>) -> Result<(
     let template = template.map(tokens).transpose()?;
     let trees = dummy_trees(template.is_some());
     parse(tokens(pattern)?, template, trees).map(|_| ())
+}
+
+/// Hands a list in for [`parse_once`] and [`tokens_once`].
+pub fn hand_in(list: &TokenList) -> Result<(), Stopped> {
+    parser::hand_in(vec![("pattern", tokens(list)?)]);
+    Ok(())
+}
+
+/// Has the crate read the list handed in, once and no more: whether it reads. This is for timing.
+pub fn parse_once() -> bool {
+    "pattern".parse::<parsing::RawPattern>().is_ok()
+}
+
+/// What of [`parse_once`] is done before the crate reads: the tokens with their texts are made, by
+/// the stand-ins.
+pub fn tokens_once() -> usize {
+    let lexed = LexedStr::new(Edition::CURRENT, "pattern");
+    let token = |i| (lexed.kind(i), SmolStr::from(lexed.text(i)));
+    let tokens: Vec<(SyntaxKind, SmolStr)> = (0..lexed.len()).map(token).collect();
+    tokens.len()
 }
 
 fn read(tokens: &Tokens) -> Result<FxHashMap<SmolStr, parsing::Placeholder>, Stopped> {

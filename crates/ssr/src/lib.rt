@@ -1,0 +1,122 @@
+// The C ABI: one exported function for each operation of document 01, thin. include/ssr.h declares them.
+use parsing::patterns;
+use parsing::patterns::Outcome;
+use parsing::patterns::Placeholder;
+use rust_code::Written;
+ghost use mathlib.Core.Path.{_≡_};
+ghost use mathlib.Core.List.{map};
+ghost use lib.ListN.{length};
+ghost use Rattle.words.specs.Buffer.{usedOf, filled};
+ghost use Rattle.parsing.specs.Reading.{reading};
+ghost use Rattle.parsing.specs.Answers.{answerNumber};
+ghost use Rattle.rust_code.specs.RawCode.{codeAnswer, codeBytes};
+ghost use Rattle.ssr.specs.Exports.{nameOf, tokensRead, pairNumber, codeWritten};
+
+// A placeholder: the bytes of its name in the list's text, and how many constraints it has.
+#[repr(C)]
+pub struct NamedPlaceholder {
+    pub start: usize,
+    pub end: usize,
+    pub constraints: usize,
+}
+
+// The answer of reading tokens: 01's number, and the placeholders in list order.
+#[repr(C)]
+pub struct ReadTokens {
+    pub refusal: u32,
+    pub count: usize,
+    pub placeholders: [NamedPlaceholder; 8],
+    pub constraints: usize,
+    pub nots: [u8; 50],
+}
+
+// 01's number of an outcome, 0 where nothing is refused.
+fn number_of(outcome: Outcome) -> u32
+    ensures { λ r. ⌜ r ≡ answerNumber outcome ⌝ }
+{
+    match outcome {
+        Outcome::Accepted => 0,
+        Outcome::Refused(r) => errors::number_of(r),
+    }
+}
+
+// The names of eight placeholders.
+fn names_of(places: [Placeholder; 8]) -> [NamedPlaceholder; 8]
+    ensures { λ r. ⌜ r ≡ map nameOf places ⌝ }
+{
+    let none = NamedPlaceholder {
+        start: 0,
+        end: 0,
+        constraints: 0,
+    };
+    let mut names = [none; 8];
+    let mut i: usize = 0;
+    while i < 8 {
+        let p = places[i];
+        names[i] = NamedPlaceholder {
+            start: p.name.start,
+            end: p.name.end,
+            constraints: p.constraints,
+        };
+        i += 1;
+    }
+    names
+}
+
+// The answer of writing raw code: 01's number, and the length of the code.
+#[repr(C)]
+pub struct RawCode {
+    pub refusal: u32,
+    pub length: usize,
+}
+
+// Reading tokens.
+#[no_mangle]
+pub extern "C" fn ssr_read_tokens(words: &[u32], text: &[u8]) -> ReadTokens
+    ensures { λ r. ⌜ r ≡ tokensRead (reading (now (words .entry)) (now (text .entry))) ⌝ }
+{
+    let parsed = patterns::parse_pattern(words, text);
+    let outcome = parsed.outcome;
+    let pattern = parsed.pattern;
+    let places = pattern.placeholders;
+    let nots = pattern.nots;
+    ReadTokens {
+        refusal: number_of(outcome),
+        count: pattern.count,
+        placeholders: names_of(places),
+        constraints: pattern.constraints,
+        nots,
+    }
+}
+
+// Checking a pair, whose template is given unless the flag is 0: 01's number.
+#[no_mangle]
+pub extern "C" fn ssr_check_pair(
+    words: &[u32],
+    text: &[u8],
+    given: u32,
+    others: &[u32],
+    other: &[u8],
+) -> u32
+    ensures { λ r. ⌜ r ≡ pairNumber (now (words .entry)) (now (text .entry)) given (now (others .entry)) (now (other .entry)) ⌝ }
+{
+    number_of(validating::validate_rule(words, text, given != 0, others, other))
+}
+
+// Writing raw code into a buffer.
+#[no_mangle]
+pub extern "C" fn ssr_raw_code(words: &[u32], text: &[u8], out: &mut [u8]) -> RawCode
+    ensures { λ r. ⌜ r ≡ codeWritten (codeAnswer (usedOf (length (now (out .entry)))) (now (text .entry)) (reading (now (words .entry)) (now (text .entry)))) ⌝ }
+    ensures { λ r. ⌜ now (out .exit) ≡ filled (now (out .entry)) (codeBytes (usedOf (length (now (out .entry)))) (now (text .entry)) (reading (now (words .entry)) (now (text .entry)))) ⌝ }
+{
+    match rust_code::as_rust_code(words, text, out) {
+        Written::Length(n) => RawCode {
+            refusal: 0,
+            length: n,
+        },
+        Written::Refused(r) => RawCode {
+            refusal: errors::number_of(r),
+            length: 0,
+        },
+    }
+}

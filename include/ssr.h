@@ -1,0 +1,87 @@
+/* The C ABI of structural search and replace: one function for each operation of document 01.
+ *
+ * A slice is handed over as two arguments, a pointer to its first element and its number of elements.
+ * The pointer of an empty slice is not read, and must not be null. Nothing is kept after a call, nothing
+ * is allocated, and no call fails: for every input, damaged ones too, the result is the one that the
+ * definitions under crates/ssr/specs give. docs/FORMAT.md says what words and texts are.
+ */
+#ifndef SSR_H
+#define SSR_H
+
+#include <stddef.h>
+#include <stdint.h>
+
+#ifdef __cplusplus
+extern "C" {
+#endif
+
+/* The most placeholders of a list, and the most constraints that a list of 255 tokens can hold. */
+#define SSR_PLACEHOLDERS 8
+#define SSR_CONSTRAINTS 50
+
+/* A placeholder: its name is the bytes from start up to end of the list's text. */
+typedef struct ssr_placeholder {
+    size_t start;
+    size_t end;
+    size_t constraints; /* how many constraints it has */
+} ssr_placeholder;
+
+/* The answer of reading tokens. Everything that is not used is 0; after a refusal that is all but the number. */
+typedef struct ssr_read_tokens_answer {
+    /* 0 if the list was read, else the number of the refusal:
+     *    1  malformed list, or over 255 tokens
+     *    2  the list ends after `${`
+     *    3  it ends before `}`
+     *    4  another token inside the braces
+     *    5  after `$` a token that is neither an identifier nor `{`
+     *    6  no name
+     *    7  the list ends where a constraint should start
+     *    8  a constraint that is neither `kind` nor `not`
+     *    9  `(` or `)` missing
+     *   10  no identifier inside `kind`
+     *   11  unknown kind
+     *   12  a name repeated
+     *   13  a ninth placeholder, its name new
+     */
+    uint32_t refusal;
+    size_t count; /* how many placeholders there are */
+    ssr_placeholder placeholders[SSR_PLACEHOLDERS]; /* in the order of the list */
+    size_t constraints; /* how many constraints all of them have together */
+    /* For each constraint, those of the first placeholder first, the number of `not`s around its kind. */
+    uint8_t nots[SSR_CONSTRAINTS];
+} ssr_read_tokens_answer;
+
+/* Reading tokens: the placeholders of a token list, or the first refusal met from the left. */
+ssr_read_tokens_answer ssr_read_tokens(const uint32_t *words, size_t words_length,
+                                       const uint8_t *text, size_t text_length);
+
+/* Checking a pair: 0 if it is fine, else the lowest refusal (1 to 13) of its two lists, or
+ *   14  a constraint in the template
+ *   15  a placeholder in the template that the pattern does not define
+ * With template_given 0 the pair is its pattern alone, and the template's slices are not looked at.
+ */
+uint32_t ssr_check_pair(const uint32_t *pattern_words, size_t pattern_words_length,
+                        const uint8_t *pattern_text, size_t pattern_text_length,
+                        uint32_t template_given,
+                        const uint32_t *template_words, size_t template_words_length,
+                        const uint8_t *template_text, size_t template_text_length);
+
+/* The answer of writing raw code. */
+typedef struct ssr_raw_code_answer {
+    uint32_t refusal; /* 0 if the code was written, else 1 to 13, or 16 where it does not fit */
+    size_t length; /* of the code; 0 after a refusal */
+} ssr_raw_code_answer;
+
+/* Writing raw code: the list's text with every placeholder written as `__placeholder_` and its name.
+ * The first 1,048,576 bytes of the buffer, or all of a shorter one, hold the code and then 0; after a
+ * refusal they are all 0. Bytes beyond never change.
+ */
+ssr_raw_code_answer ssr_raw_code(const uint32_t *words, size_t words_length,
+                                 const uint8_t *text, size_t text_length,
+                                 uint8_t *out, size_t out_length);
+
+#ifdef __cplusplus
+}
+#endif
+
+#endif

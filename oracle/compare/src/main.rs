@@ -1,0 +1,105 @@
+//! Holds the Rattle library against the judge, times both, and writes the sample that
+//! crates/replay runs. `run` builds the library first.
+
+mod bench;
+mod comparison;
+mod library;
+mod sample;
+
+use std::io::{BufRead, Write, stdin, stdout};
+use std::process::ExitCode;
+
+use comparison::Summary;
+use corpus::{case, json};
+use generator::Class;
+use input::{Operation, Pair, TokenList, used};
+
+const USAGE: &str = "usage: compare corpus < CASES
+       compare generated SEED COUNT
+       compare bench
+       compare sample SEED COUNT";
+
+/// Cases whose lists are written into a buffer with bytes beyond its used part.
+const LARGE_BUFFERS: u64 = 40;
+
+fn main() -> ExitCode {
+    let arguments: Vec<String> = std::env::args().skip(1).collect();
+    match ssr::on_large_stack(move || run(&arguments)) {
+        Ok(true) => ExitCode::SUCCESS,
+        Ok(false) => ExitCode::FAILURE,
+        Err(message) => {
+            eprintln!("{message}");
+            ExitCode::from(2)
+        }
+    }
+}
+
+fn run(arguments: &[String]) -> Result<bool, String> {
+    let arguments: Vec<&str> = arguments.iter().map(String::as_str).collect();
+    match arguments.as_slice() {
+        ["corpus"] => corpus_lists(stdin().lock()),
+        ["generated", seed, count] => Ok(generated(number(seed)?, number(count)?)),
+        ["bench"] => Ok(bench::run()),
+        ["sample", seed, count] => {
+            let sample = sample::make(number(seed)?, number(count)? as usize)?;
+            stdout().write_all(&sample).map_err(|error| error.to_string())?;
+            Ok(true)
+        }
+        _ => Err(USAGE.into()),
+    }
+}
+
+fn number(text: &str) -> Result<u64, String> {
+    text.parse().map_err(|_| format!("`{text}` is no number"))
+}
+
+/// The pairs of the cases, with their lists.
+fn corpus_lists(lines: impl BufRead) -> Result<bool, String> {
+    let mut summary = Summary::default();
+    for (number, line) in (1..).zip(lines.lines()) {
+        let error = |error: String| format!("line {number}: {error}");
+        let line = line.map_err(|failure| error(failure.to_string()))?;
+        let case = json::read(&line).and_then(|value| case::read_case(&value)).map_err(error)?;
+        for (pair, number) in case.pairs.into_iter().zip(1..) {
+            summary.add(|| format!("{}, pair {number}", case.id), check_pair(pair));
+        }
+    }
+    Ok(summary.print())
+}
+
+fn check_pair(pair: Pair) -> Operation {
+    let template = pair.has_template.then_some(pair.template.list);
+    Operation::CheckPair { pattern: pair.pattern.list, template }
+}
+
+/// All of tokens-all, and `count` cases of each random class.
+fn generated(seed: u64, count: u64) -> bool {
+    let mut summary = Summary::default();
+    let classes = [
+        (Class::TokensAll, "tokens-all"),
+        (Class::Tokens, "tokens"),
+        (Class::Lists, "lists"),
+        (Class::Damaged, "damaged"),
+    ];
+    for (class, name) in classes {
+        for index in 0..class.count().unwrap_or(count) {
+            if let Some(operation) = generator::case(class, seed, index) {
+                summary.add(|| format!("{name} {seed} {index}"), operation);
+            }
+        }
+    }
+    for list in (0..LARGE_BUFFERS).flat_map(|index| lists(seed, index)) {
+        let buffer = used(usize::MAX) + 7;
+        summary.add(|| "a large buffer".into(), Operation::RawCode { list, buffer });
+    }
+    summary.print()
+}
+
+/// The lists of a case.
+fn lists(seed: u64, index: u64) -> impl Iterator<Item = TokenList> {
+    let operations = generator::case(Class::Tokens, seed, index).into_iter();
+    operations.flat_map(comparison::with_lists).filter_map(|operation| match operation {
+        Operation::ReadTokens { list } => Some(list),
+        _ => None,
+    })
+}

@@ -1,0 +1,4 @@
+//! The cases of a corpus, read from JSON lines.
+
+pub mod case;
+pub mod json;
