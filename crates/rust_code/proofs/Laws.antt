@@ -38,42 +38,42 @@ module _ (d : List ℕ) (at : ℕ) (bs : List ℕ) where
   pub lays-stop : (e ys : List ℕ) → Lays d at bs Full e → length d < at + length (bs ++ ys)
   lays-stop e ys h = omega (arith, h, length-append bs ys)
 
-module _ (text : List ℕ) (from : ℕ) (ps : List Placeholder) (i : ℕ) where
-  pub segments-step : i < length ps → segments text from (drop i ps) ≡ segment text from (getD ps i noPlaceholder) ++ segments text (getD ps i noPlaceholder .whole .end) (drop (i + 1) ps)
+module _ (text : List ℕ) (end from : ℕ) (ps : List Placeholder) (i : ℕ) where
+  pub segments-step : i < length ps → segments text end from (drop i ps) ≡ segment text from (getD ps i noPlaceholder) ++ segments text end (getD ps i noPlaceholder .whole .end) (drop (i + 1) ps)
   unfolding segments
   segments-step h = rw (add-one, drop-cons ps i noPlaceholder)
 
-  pub segments-end : length ps ≤ i → segments text from (drop i ps) ≡ part text from (length text)
+  pub segments-end : length ps ≤ i → segments text end from (drop i ps) ≡ part text from end
   unfolding segments
   segments-end h = rw (drop-of-length-le ps h)
 
 -- the bytes laid before the i-th place, and what is left
-pub record SoFar (d text : List ℕ) (ps : List Placeholder) (e : List ℕ) (at from i : ℕ) : Type 0 where
+pub record SoFar (d text : List ℕ) (end : ℕ) (ps : List Placeholder) (e : List ℕ) (at from i : ℕ) : Type 0 where
   pub bytes : List ℕ
   pub lays : Lays d 0 bytes (At at) e
-  pub whole : segments text 0 ps ≡ bytes ++ segments text from (drop i ps)
+  pub whole : segments text end 0 ps ≡ bytes ++ segments text end from (drop i ps)
 
-module _ (d text : List ℕ) (ps : List Placeholder) where
-  pub so-far-none : SoFar d text ps d 0 0 0
+module _ (d text : List ℕ) (end : ℕ) (ps : List Placeholder) where
+  pub so-far-none : SoFar d text end ps d 0 0 0
   so-far-none = record { bytes = []; lays = (refl, omega arith, refl); whole = refl }
 
-  module _ (e : List ℕ) (at from i : ℕ) (s : SoFar d text ps e at from i) where
-    next : i < length ps → segments text 0 ps ≡ (s .bytes ++ segment text from (getD ps i noPlaceholder)) ++ segments text (getD ps i noPlaceholder .whole .end) (drop (i + 1) ps)
-    next h = s .whole ∙ rw (segments-step text from ps i h) (sym (append-assoc (s .bytes) (segment text from (getD ps i noPlaceholder)) (segments text (getD ps i noPlaceholder .whole .end) (drop (i + 1) ps))))
+  module _ (e : List ℕ) (at from i : ℕ) (s : SoFar d text end ps e at from i) where
+    next : i < length ps → segments text end 0 ps ≡ (s .bytes ++ segment text from (getD ps i noPlaceholder)) ++ segments text end (getD ps i noPlaceholder .whole .end) (drop (i + 1) ps)
+    next h = s .whole ∙ rw (segments-step text end from ps i h) (sym (append-assoc (s .bytes) (segment text from (getD ps i noPlaceholder)) (segments text end (getD ps i noPlaceholder .whole .end) (drop (i + 1) ps))))
 
-    pub so-far-more : (p : Placeholder) (n : ℕ) (f : List ℕ) → i < length ps → getD ps i noPlaceholder ≡ p → Lays e at (segment text from p) (At n) f → SoFar d text ps f n (p .whole .end) (i + 1)
+    pub so-far-more : (p : Placeholder) (n : ℕ) (f : List ℕ) → i < length ps → getD ps i noPlaceholder ≡ p → Lays e at (segment text from p) (At n) f → SoFar d text end ps f n (p .whole .end) (i + 1)
     so-far-more p n f h k l =
-        let x : SoFar d text ps f n (getD ps i noPlaceholder .whole .end) (i + 1) = record {
+        let x : SoFar d text end ps f n (getD ps i noPlaceholder .whole .end) (i + 1) = record {
           bytes = s .bytes ++ segment text from (getD ps i noPlaceholder);
           lays = lays-then d 0 (s .bytes) at e (segment text from (getD ps i noPlaceholder)) (At n) f (s .lays) (rw (← k) at l);
           whole = next h;
         } in
         rw k at x
 
-    pub so-far-full : (p : Placeholder) (f : List ℕ) → i < length ps → getD ps i noPlaceholder ≡ p → Lays e at (segment text from p) Full f → length d < 0 + length (segments text 0 ps)
+    pub so-far-full : (p : Placeholder) (f : List ℕ) → i < length ps → getD ps i noPlaceholder ≡ p → Lays e at (segment text from p) Full f → length d < 0 + length (segments text end 0 ps)
     so-far-full p f h k l =
         let x = lays-then d 0 (s .bytes) at e (segment text from (getD ps i noPlaceholder)) Full f (s .lays) (rw (← k) at l) in
-        rw (next h) (omega (arith, x, length-append (s .bytes ++ segment text from (getD ps i noPlaceholder)) (segments text (getD ps i noPlaceholder .whole .end) (drop (i + 1) ps))))
+        rw (next h) (omega (arith, x, length-append (s .bytes ++ segment text from (getD ps i noPlaceholder)) (segments text end (getD ps i noPlaceholder .whole .end) (drop (i + 1) ps))))
 
-    pub so-far-end : (r : Placed) (f : List ℕ) → length ps ≤ i → Lays e at (part text from (length text)) r f → Lays d 0 (segments text 0 ps) r f
-    so-far-end r f h l = rw (s .whole, segments-end text from ps i h) (lays-then d 0 (s .bytes) at e (part text from (length text)) r f (s .lays) l)
+    pub so-far-end : (r : Placed) (f : List ℕ) → length ps ≤ i → Lays e at (part text from end) r f → Lays d 0 (segments text end 0 ps) r f
+    so-far-end r f h l = rw (s .whole, segments-end text end from ps i h) (lays-then d 0 (s .bytes) at e (part text from end) r f (s .lays) l)

@@ -1,4 +1,6 @@
 -- Laws of raw code.
 pub mod Laws
 pub mod CodeLaws
+pub mod EatLaws
 pub mod StandInLaws
+pub mod TrimLaws

@@ -6,10 +6,9 @@ use mathlib.Core.List.{List, [], _∷_, _++_, map}
 use Prim.Native.Nat.{ℕ, suc, _+_, _-_, _≤_}
 use native.Mathlib.Omega.{arith}
 use native.Mathlib.Numerals.{add-one}
-use lib.ListN.{length, drop, length-drop}
-use lib.Seq.{take-all}
+use lib.ListN.{length, drop}
 use Rattle.words.specs.Texts.{part, sameText, hasPrefix, standInPrefix}
-use Rattle.words.proofs.TextLaws.{part-in, same-append, prefix-long}
+use Rattle.words.proofs.TextLaws.{part-rest, same-append, prefix-long}
 use Rattle.tokens.specs.Tokens.{tokenText}
 use Rattle.parsing.specs.Reading.{Var}
 use Rattle.parsing.specs.Answers.{nameIndex, placeOf}
@@ -29,4 +28,4 @@ module _ (text x : List ℕ) where
 pub behind-prefix : (x : List ℕ) → hasPrefix standInPrefix x ≡ true → part x 14 (length x) ≡ drop 14 x
 behind-prefix x h =
     let l : 14 ≤ length x = prefix-long standInPrefix x h in
-    part-in x 14 (length x) l (omega arith) ∙ take-all (length x - 14) (drop 14 x) (omega (arith, length-drop 14 x))
+    part-rest x 14 l

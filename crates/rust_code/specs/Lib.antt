@@ -1,3 +1,4 @@
 pub mod RawCode
 pub mod Segments
 pub mod StandIns
+pub mod Trim

@@ -1,9 +1,9 @@
 -- Writing raw code, document 01: "placeholders as `__placeholder_` and the name: 16 does not fit."
 -- Assumes nothing.
 use Prim.Native.Nat.{ℕ}
-use mathlib.Core.Bool.{cond}
+use mathlib.Core.Bool.{Bool, false, cond}
 use mathlib.Core.List.{List, [], _∷_, _++_}
-use lib.Dec.{leb}
+use lib.Dec.{eqb, leb}
 use lib.ListN.{length}
 use Rattle.errors.specs.declared.Refusal.{Refusal}
 use Rattle.errors.specs.declared.Refusal.the-variants.{DoesNotFit}
@@ -23,6 +23,26 @@ elementCode text (placeholder v) = standInName text v
 unfoldable pub rawCode : List ℕ → List Element → List ℕ
 rawCode text [] = []
 rawCode text (e ∷ es) = elementCode text e ++ rawCode text es
+
+-- "its list's raw code without WHITESPACE tokens at its ends"
+abbrev pub isSpace : Element → Bool
+isSpace (plain t) = eqb (t .kind) 2
+isSpace (placeholder v) = false
+
+unfoldable pub trimStart : List Element → List Element
+trimStart [] = []
+trimStart (e ∷ es) = cond (isSpace e) (trimStart es) (e ∷ es)
+
+abbrev pub unlessLast : Element → List Element → List Element
+unlessLast e [] = cond (isSpace e) [] (e ∷ [])
+unlessLast e (x ∷ es) = e ∷ x ∷ es
+
+unfoldable pub trimEnd : List Element → List Element
+trimEnd [] = []
+trimEnd (e ∷ es) = unlessLast e (trimEnd es)
+
+abbrev pub treeText : List ℕ → List Element → List ℕ
+treeText text es = rawCode text (trimEnd (trimStart es))
 
 -- the answer in a buffer of which n bytes are used, and the bytes written
 abbrev pub codeAnswer : ℕ → List ℕ → Reading → Written

@@ -19,10 +19,10 @@ use Rattle.rust_code.specs.declared.Written.the-variants.{Length, Refuse
 abbrev pub segment : List ℕ → ℕ → Placeholder → List ℕ
 segment text from p = part text from (p .whole .start) ++ standInPrefix ++ part text (p .name .start) (p .name .end)
 
--- the code from a byte on
-unfoldable pub segments : List ℕ → ℕ → List Placeholder → List ℕ
-segments text from [] = part text from (length text)
-segments text from (p ∷ ps) = segment text from p ++ segments text (p .whole .end) ps
+-- the code of the text up to a byte, from another on
+unfoldable pub segments : List ℕ → ℕ → ℕ → List Placeholder → List ℕ
+segments text end from [] = part text from end
+segments text end from (p ∷ ps) = segment text from p ++ segments text end (p .whole .end) ps
 
 -- bytes laid in a buffer at a place, or no room for them; nothing is said of the buffer then
 abbrev pub Lays : List ℕ → ℕ → List ℕ → Placed → List ℕ → Type 0

@@ -18,6 +18,8 @@ ghost use Rattle.rust_code.specs.RawCode.{codeAnswer, codeBytes};
 ghost use Rattle.rust_code.specs.Segments.{segment, segments, Lays, Writes};
 ghost use Rattle.rust_code.specs.StandIns.{standInIndex};
 
+pub mod tree_text; // tree_text.rt: comparing a tree's text with its list
+
 // The length of the raw code, or the refusal.
 pub enum Written {
     Length(usize),
@@ -40,7 +42,7 @@ fn lay_placeholder(out: &mut [u8], at: usize, text: &[u8], from: usize, p: Place
 // Lays the raw code of a list from the buffer's front.
 fn lay_code(out: &mut [u8], text: &[u8], pattern: Pattern) -> Placed
     requires { ⌜ Eight pattern ⌝ }
-    ensures { λ r. ⌜ Lays (now (out .entry)) 0 (segments (now (text .entry)) 0 (take (pattern .count) (pattern .placeholders))) r (now (out .exit)) ⌝ }
+    ensures { λ r. ⌜ Lays (now (out .entry)) 0 (segments (now (text .entry)) (length (now (text .entry))) 0 (take (pattern .count) (pattern .placeholders))) r (now (out .exit)) ⌝ }
 {
     let n = pattern.count;
     let mut at: usize = 0;
@@ -61,7 +63,7 @@ fn lay_code(out: &mut [u8], text: &[u8], pattern: Pattern) -> Placed
 // The raw code of a list that was read, into the used part of the buffer.
 fn write_code(out: &mut [u8], text: &[u8], pattern: Pattern) -> Written
     requires { ⌜ Eight pattern ⌝ }
-    ensures { λ r. ⌜ Writes (now (out .entry)) (segments (now (text .entry)) 0 (take (pattern .count) (pattern .placeholders))) r (now (out .exit)) ⌝ }
+    ensures { λ r. ⌜ Writes (now (out .entry)) (segments (now (text .entry)) (length (now (text .entry))) 0 (take (pattern .count) (pattern .placeholders))) r (now (out .exit)) ⌝ }
 {
     let end = buffer::used(out.len());
     match lay_code(&mut out[..end], text, pattern) {

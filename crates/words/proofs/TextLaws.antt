@@ -7,7 +7,7 @@ use Prim.Native.Nat.{ℕ, suc, _+_, _-_, _<_, _≤_}
 use native.Mathlib.Numerals.{add-one}
 use native.Mathlib.Omega.{arith}
 use lib.Dec.{eqb, leb, ltb}
-use lib.ListN.{length, getD, take, drop, drop-of-length-le}
+use lib.ListN.{length, getD, take, drop, length-drop, drop-of-length-le}
 use lib.Seq.{drop-cons, drop-drop, take-all, take-add}
 use borrow.Author.Tests.{eqb-true, eqb-false, eq-eqb, ne-eqb, le-leb, lt-leb, ltb-true, ltb-false}
 use Rattle.words.specs.Texts.{part, sameText, hasPrefix}
@@ -30,6 +30,9 @@ module _ (t : List ℕ) (start end : ℕ) where
 either-none : (b : Bool) → cond {A = List ℕ} b [] [] ≡ []
 either-none true = refl
 either-none false = refl
+
+pub part-rest : (t : List ℕ) (n : ℕ) → n ≤ length t → part t n (length t) ≡ drop n t
+part-rest t n h = part-in t n (length t) h (omega arith) ∙ take-all (length t - n) (drop n t) (omega (arith, length-drop n t))
 
 pub part-none : (t : List ℕ) (n : ℕ) → part t n n ≡ []
 unfolding part

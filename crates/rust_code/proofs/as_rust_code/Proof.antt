@@ -22,7 +22,7 @@ returns c =
     let c₁₁ = c₇ .before .before .before .before in
     let a = c₁₁ .args in let d = now (a .out) in let w = now (a .words) in let t = now (a .text) in let u = usedOf (length d) in let x = was-read
     (reading w t) (c₇ .parse-pattern .result) (c₇ .parse-pattern .ensures .0) (c₄ .enum-told .given .1) in let es = x .elements in let p =
-    c₇ .parse-pattern .result .pattern in let q : segments t 0 (take (p .count) (p .placeholders)) ≡ rawCode t es = rw (places-of p (vars es) []
+    c₇ .parse-pattern .result .pattern in let q : segments t (length t) 0 (take (p .count) (p .placeholders)) ≡ rawCode t es = rw (places-of p (vars es) []
     (x .shows)) (sym (code-segments w t es (read-formed w t es (x .is)) (x .is))) in let e = rw q at (c₂ .write-code .ensures) in (
       e .0 ∙ sym (ap
           (codeAnswer u t) (x .is)),

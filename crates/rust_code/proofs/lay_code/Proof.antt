@@ -16,13 +16,13 @@ use Rattle.rust_code.proofs.lay_code.Statement.{statement}
 use Rattle.rust_code.proofs.lay_code.Tie as tie
 
 abbrev Inv-loop : tie.InvT-loop
-Inv-loop out₀ text pattern n at₀ from₀ i₀ out at from i = (i ≤ pattern .count) × (length out ≡ length out₀) × SoFar out₀ text (take (pattern .count) (pattern .placeholders)) out at from i
+Inv-loop out₀ text pattern n at₀ from₀ i₀ out at from i = (i ≤ pattern .count) × (length out ≡ length out₀) × SoFar out₀ text (length text) (take (pattern .count) (pattern .placeholders)) out at from i
 
 abbrev μ-loop : tie.MeasureT-loop
 μ-loop out₀ text pattern n at₀ from₀ i₀ out at from i = pattern .count - i
 
 loop-holds : tie.Need-loop-holds Inv-loop μ-loop
-loop-holds c = (search needs, search needs, so-far-none _ _ _)
+loop-holds c = (search needs, search needs, so-far-none _ _ _ _)
 
 element-copy-out-p : tie.Need-element-copy-out-p Inv-loop μ-loop
 element-copy-out-p c =
@@ -40,7 +40,7 @@ returns c =
     let c₁₁ = c₈ .before .before .before in
     let a = c₁₁ .args in let l = c₈ .loop in let ps = a .t3 .placeholders in let n = a .t3 .count in let len : length (take n ps) ≡ n =
     length-take-le n ps (omega (arith, c₁₁ .pre .few, c₁₁ .pre .places)) in let x = rw (c .enum-told .given .1) at (c₄ .lay-placeholder .ensures) in
-    so-far-full (now (a .out)) (now (a .text)) (take n ps) (l .out) (l .at) (l .from) (l .i) (l .inv .2) (getD ps (l .i) noPlaceholder)
+    so-far-full (now (a .out)) (now (a .text)) (length (now (a .text))) (take n ps) (l .out) (l .at) (l .from) (l .i) (l .inv .2) (getD ps (l .i) noPlaceholder)
     (c₄ .lay-placeholder .last .0) (omega arith) (getD-take n ps (l .i) noPlaceholder (omega arith)) x
 
 loop-again : tie.Need-loop-again Inv-loop μ-loop
@@ -52,7 +52,7 @@ loop-again c =
       omega
           arith,
       c₅ .lay-placeholder .kept .0 ∙ l .inv .1,
-      so-far-more (now (a .out)) (now (a .text)) (take n ps) (l .out) (l .at) (l .from) (l .i)
+      so-far-more (now (a .out)) (now (a .text)) (length (now (a .text))) (take n ps) (l .out) (l .at) (l .from) (l .i)
           (l .inv .2) (getD ps (l .i) noPlaceholder) (c₁ .m .given .0 .0) (c₅ .lay-placeholder .last .0) (omega arith) (getD-take n ps (l .i) noPlaceholder
           (omega arith)) x,
     )
@@ -69,7 +69,7 @@ returns-2 c =
     let a = c₉ .args in let l = c₆ .loop in let ps = a .t3 .placeholders in let n = a .t3 .count in let t = now (a .text) in let len : length (take n
     ps) ≡ n = length-take-le n ps (omega (arith, c₉ .pre .few, c₉ .pre .places)) in let x : Lays (l .out) (l .at) (part t (l .from) (length t))
     (c₂ .put .result) (c₂ .put .last .0) = rw (c₃ .part-of .ensures) at (lays-put (l .out) (l .at) (now (c₃ .part-of .result)) (c₂ .put .result)
-    (c₂ .put .last .0) (c₂ .put .ensures .0) (c₂ .put .ensures .1)) in so-far-end (now (a .out)) t (take n ps) (l .out) (l .at) (l .from) (l .i)
+    (c₂ .put .last .0) (c₂ .put .ensures .0) (c₂ .put .ensures .1)) in so-far-end (now (a .out)) t (length t) (take n ps) (l .out) (l .at) (l .from) (l .i)
     (l .inv .2) (c₂ .put .result) (c₂ .put .last .0) (omega arith) x
 
 pub lay-code-spec : {M : Type 1} → statement M

@@ -31,7 +31,7 @@ returns : tie.Need-returns
 returns c =
     let c₂ = c .before .before in let c₅ = c₂ .before .before .before in let c₉ = c₅ .before .before .before .before in
     let c₁₁ = c₉ .before .before in let c₁₄ = c₁₁ .before .before .before in
-    let a = c₁₄ .args in let d = now (a .out) in let bs = segments (now (a .text)) 0 (take (a .pattern .count) (a .pattern .placeholders)) in let e =
+    let a = c₁₄ .args in let d = now (a .out) in let bs = segments (now (a .text)) (length (now (a .text))) 0 (take (a .pattern .count) (a .pattern .placeholders)) in let e =
     c₉ .lay-code .last .0 in let n = c₅ .n .given .0 .0 in let u = usedOf (length d) in let p : length (take u d) ≡ u = length-take-le u d
     (used-within (length d)) in let l : Lays (take u d) 0 bs (At n) e = rw (c₁₁ .used .ensures) at (rw (c₅ .n .given .1) at (c₉ .lay-code .ensures))
     in let fits : length bs ≤ u = omega (arith, l .0, l .1) in let le : length e ≡ u = ap length (l .2) ∙ length-laid (take u d) 0 bs (omega arith) ∙
@@ -45,7 +45,7 @@ returns-2 : tie.Need-returns-2
 returns-2 c =
     let c₂ = c .before .before in let c₄ = c₂ .before .before in let c₈ = c₄ .before .before .before .before in
     let c₁₀ = c₈ .before .before in let c₁₃ = c₁₀ .before .before .before in
-    let a = c₁₃ .args in let d = now (a .out) in let bs = segments (now (a .text)) 0 (take (a .pattern .count) (a .pattern .placeholders)) in let e =
+    let a = c₁₃ .args in let d = now (a .out) in let bs = segments (now (a .text)) (length (now (a .text))) 0 (take (a .pattern .count) (a .pattern .placeholders)) in let e =
     c₈ .lay-code .last .0 in let u = usedOf (length d) in let p : length (take u d) ≡ u = length-take-le u d (used-within (length d)) in let l : Lays
     (take u d) 0 bs Full e = rw (c₁₀ .used .ensures) at (rw (c₄ .enum-told .given .1) at (c₈ .lay-code .ensures)) in let le : length e ≡ u = rw
     (c₁₀ .used .ensures) at (c₈ .lay-code .kept .0) ∙ p in rw (lt-leb (length bs) u (omega (arith, l, p))) (
