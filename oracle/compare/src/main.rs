@@ -12,6 +12,7 @@ use std::process::ExitCode;
 use comparison::Summary;
 use corpus::{case, json};
 use generator::Class;
+use generator::arguments::number;
 use input::{Operation, Pair, TokenList, used};
 
 const USAGE: &str = "usage: compare corpus < CASES
@@ -23,20 +24,11 @@ const USAGE: &str = "usage: compare corpus < CASES
 const LARGE_BUFFERS: u64 = 40;
 
 fn main() -> ExitCode {
-    let arguments: Vec<String> = std::env::args().skip(1).collect();
-    match ssr::on_large_stack(move || run(&arguments)) {
-        Ok(true) => ExitCode::SUCCESS,
-        Ok(false) => ExitCode::FAILURE,
-        Err(message) => {
-            eprintln!("{message}");
-            ExitCode::from(2)
-        }
-    }
+    judge::program::main(run)
 }
 
-fn run(arguments: &[String]) -> Result<bool, String> {
-    let arguments: Vec<&str> = arguments.iter().map(String::as_str).collect();
-    match arguments.as_slice() {
+fn run(arguments: &[&str]) -> Result<bool, String> {
+    match arguments {
         ["corpus"] => corpus_lists(stdin().lock()),
         ["generated", seed, count] => Ok(generated(number(seed)?, number(count)?)),
         ["bench"] => Ok(bench::run()),
@@ -47,10 +39,6 @@ fn run(arguments: &[String]) -> Result<bool, String> {
         }
         _ => Err(USAGE.into()),
     }
-}
-
-fn number(text: &str) -> Result<u64, String> {
-    text.parse().map_err(|_| format!("`{text}` is no number"))
 }
 
 /// The pairs of the cases, with their lists.

@@ -1,6 +1,7 @@
 //! Test cases for document 01's operations, made from a class, a seed and an index: the same
 //! three always give the same case.
 
+pub mod arguments;
 mod damage;
 mod derive;
 mod facts;

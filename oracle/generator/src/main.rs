@@ -1,5 +1,6 @@
 //! Prints generated cases, the classes, and how often each answer of the checker comes up.
 
+use generator::arguments::{named, number};
 use generator::{CLASSES, Class, case};
 use input::{Answer, Operation, case_file};
 use std::collections::BTreeMap;
@@ -34,14 +35,6 @@ fn run(arguments: &[&str]) -> Result<String, String> {
         ["stats", class, seed, count] => Ok(stats(named(class)?, number(seed)?, number(count)?)),
         _ => Err(USAGE.into()),
     }
-}
-
-fn named(name: &str) -> Result<Class, String> {
-    Class::named(name).ok_or(format!("no class `{name}`"))
-}
-
-fn number(text: &str) -> Result<u64, String> {
-    text.parse().map_err(|_| format!("`{text}` is no number"))
 }
 
 fn list() -> String {

@@ -4,6 +4,7 @@
 mod jobs;
 mod lists;
 pub mod predicates;
+pub mod program;
 mod rules;
 
 use checker::refused;

@@ -1,6 +1,7 @@
 //! Answers operations: those of case files, a single generated one, or a whole run of generated
 //! ones, with a summary of where the crate and the checker agree.
 
+use generator::arguments::{named, number};
 use generator::{Class, case, complete};
 use input::{Answer, Operation, case_file};
 use judge::{Judgement, judge};
@@ -15,20 +16,11 @@ const USAGE: &str = "usage: judge run FILE..
 const ASKINGS: usize = 64;
 
 fn main() -> ExitCode {
-    let arguments: Vec<String> = std::env::args().skip(1).collect();
-    match ssr::on_large_stack(move || run(&arguments)) {
-        Ok(true) => ExitCode::SUCCESS,
-        Ok(false) => ExitCode::FAILURE,
-        Err(message) => {
-            eprintln!("{message}");
-            ExitCode::from(2)
-        }
-    }
+    judge::program::main(run)
 }
 
-fn run(arguments: &[String]) -> Result<bool, String> {
-    let arguments: Vec<&str> = arguments.iter().map(String::as_str).collect();
-    match arguments.as_slice() {
+fn run(arguments: &[&str]) -> Result<bool, String> {
+    match arguments {
         ["run", files @ ..] if !files.is_empty() => {
             for file in files {
                 show(&judge(&read(file)?));
@@ -50,14 +42,6 @@ fn run(arguments: &[String]) -> Result<bool, String> {
 fn read(file: &str) -> Result<Operation, String> {
     let text = std::fs::read_to_string(file).map_err(|error| format!("{file}: {error}"))?;
     case_file::read(&text).map_err(|error| format!("{file}: {error}"))
-}
-
-fn named(name: &str) -> Result<Class, String> {
-    Class::named(name).ok_or(format!("no class `{name}`"))
-}
-
-fn number(text: &str) -> Result<u64, String> {
-    text.parse().map_err(|_| format!("`{text}` is no number"))
 }
 
 fn show(judgement: &Judgement) {
