@@ -1,9 +1,12 @@
 -- Document 01, "Refusals by operation": the number of each refusal. Every answer and every promise takes its number from here.
 -- Assumes nothing.
 use Prim.Native.Nat.{ℕ}
-use mathlib.Core.Bool.{cond}
+use mathlib.Core.Bool.{Bool, cond}
+use mathlib.Core.List.{List, [], _∷_}
 use lib.Dec.{leb}
 use Rattle.errors.specs.declared.Refusal.{Refusal}
+use Rattle.errors.specs.declared.Outcome.{Outcome}
+use Rattle.errors.specs.declared.Outcome.the-variants.{Accepted, Refused}
 use Rattle.errors.specs.declared.Refusal.the-variants.{MalformedList, EndsAfterBrace, EndsBeforeClosingBrace, UnexpectedToken, NeitherNameNorBrace, NoName, EndsBeforeConstraint, UnsupportedConstraint, MissingParenthesis, NoKindIdent, UnknownKind, RepeatedName, NinthPlaceholder, TemplateConstraint, UndefinedPlaceholder, DoesNotFit, NoForm, TreeTooLarge, MalformedTree, TreeTooDeep, MalformedFacts, UnresolvedPath, NoSuchNodeOrRule, TooManyRulesOrCandidates, NoSuchCandidate, RepeatedCandidate, NoTemplate, MalformedParses, UnboundPlaceholder, NoRoom}
 
 abbrev pub numberOf : Refusal → ℕ
@@ -46,6 +49,26 @@ numberOf MalformedParses = 28  -- parses malformed or kind and text repeated
 numberOf UnboundPlaceholder = 29  -- a template placeholder unbound
 numberOf NoRoom = 30  -- the next byte does not fit
 
+-- an outcome's number, 0 where nothing is refused
+abbrev pub outcomeNumber : Outcome → ℕ
+outcomeNumber Accepted = 0
+outcomeNumber (Refused r) = numberOf r
+
 -- "Where several lists, rules or trees refuse, the lowest of their numbers is given."
-abbrev pub lowerOf : Refusal → Refusal → Refusal
-lowerOf a b = cond (leb (numberOf a) (numberOf b)) a b
+abbrev pub lowestOf : Outcome → Outcome → Outcome
+lowestOf Accepted b = b
+lowestOf (Refused r) Accepted = Refused r
+lowestOf (Refused r) (Refused s) = cond (leb (numberOf r) (numberOf s)) (Refused r) (Refused s)
+
+unfoldable pub lowest : List Outcome → Outcome
+lowest [] = Accepted
+lowest (a ∷ rest) = lowestOf a (lowest rest)
+
+-- checks in the order in which they are looked at: the first whose condition holds refuses
+pub record Check : Type 0 where
+  pub fails : Bool
+  pub refusal : Refusal
+
+unfoldable pub firstOf : List Check → Outcome
+firstOf [] = Accepted
+firstOf (c ∷ cs) = cond (c .fails) (Refused (c .refusal)) (firstOf cs)

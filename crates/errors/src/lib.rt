@@ -1,6 +1,6 @@
 // The refusals of document 01, as an enum instead of the crate's message texts (docs/src/src/errors.rs).
 ghost use mathlib.Core.Path.{_≡_};
-ghost use Rattle.errors.specs.Refusals.{numberOf, lowerOf};
+ghost use Rattle.errors.specs.Refusals.{numberOf, outcomeNumber, lowestOf};
 
 // One case for each number of 01's section "Refusals by operation", in its order.
 pub enum Refusal {
@@ -82,12 +82,36 @@ pub fn number_of(refusal: Refusal) -> u32
     }
 }
 
-// The refusal with the lower number, where two refuse.
-pub fn lower(a: Refusal, b: Refusal) -> Refusal
-    ensures { λ r. ⌜ r ≡ lowerOf a b ⌝ }
+// What a check, or an operation that gives nothing else, answers.
+pub enum Outcome {
+    Accepted,
+    Refused(Refusal),
+}
+
+// The outcome's number: the refusal's, 0 where nothing is refused.
+pub fn outcome_number(outcome: Outcome) -> u32
+    ensures { λ r. ⌜ r ≡ outcomeNumber outcome ⌝ }
 {
-    if number_of(a) <= number_of(b) {
-        return a;
+    match outcome {
+        Outcome::Accepted => 0,
+        Outcome::Refused(refusal) => number_of(refusal),
     }
-    b
+}
+
+// The refusal with the lower number, where both refuse.
+pub fn lowest(a: Outcome, b: Outcome) -> Outcome
+    ensures { λ r. ⌜ r ≡ lowestOf a b ⌝ }
+{
+    match a {
+        Outcome::Accepted => b,
+        Outcome::Refused(r) => match b {
+            Outcome::Accepted => Outcome::Refused(r),
+            Outcome::Refused(s) => {
+                if number_of(r) <= number_of(s) {
+                    return Outcome::Refused(r);
+                }
+                Outcome::Refused(s)
+            }
+        },
+    }
 }

@@ -14,12 +14,13 @@ use Rattle.parsing.specs.declared.patterns.Step.{Step}
 use Rattle.parsing.specs.declared.patterns.Step.the-variants.{At, Refused}
 use Rattle.parsing.specs.Reading.{Var, Element, plain, placeholder, vars, State, top, dollar, brace, isDollar, run, follow, Reading, read, refused, reading}
 use Rattle.parsing.specs.Steps.{Leads}
-use Rattle.parsing.specs.Answers.{patternOf, emptyPattern, allNots, answerOf, answerNumber, readingNumber}
+use Rattle.errors.specs.Refusals.{outcomeNumber}
+use Rattle.parsing.specs.Answers.{patternOf, emptyPattern, allNots, answerOf, readingNumber}
 use Rattle.parsing.specs.Placeholders.{Passed, PlaceholderRead, Taken, Took, SoFar}
 use Rattle.parsing.proofs.Laws.{here, follows, goes, run-end}
 use Rattle.errors.specs.declared.Refusal.{Refusal}
 use Rattle.parsing.proofs.PatternLaws.{vars-snoc}
-use Rattle.parsing.specs.declared.patterns.Outcome.the-variants.{Accepted, Refused as Rejected}
+use Rattle.errors.specs.declared.Outcome.the-variants.{Accepted, Refused as Rejected}
 use Rattle.parsing.specs.declared.patterns.ParsedPattern.{ParsedPattern}
 use Rattle.errors.specs.declared.Refusal.the-variants.{MalformedList}
 
@@ -99,7 +100,7 @@ module _ (words text : List ℕ) where
     so-far-stop r f = to-dollar ∙ f (pass (s .elements) .elements) known
 
 -- the answer has the reading's number
-pub number-of-answer : (r : Reading) → answerNumber (answerOf r .outcome) ≡ readingNumber r
+pub number-of-answer : (r : Reading) → outcomeNumber (answerOf r .outcome) ≡ readingNumber r
 number-of-answer (read es) = refl
 number-of-answer (refused r) = refl
 

@@ -10,15 +10,11 @@ use Rattle.words.specs.Texts.{part, sameText}
 use Rattle.parsing.specs.declared.patterns.Placeholder.{Placeholder}
 use Rattle.parsing.specs.declared.patterns.Pattern.{Pattern}
 use Rattle.parsing.specs.declared.patterns.ParsedPattern.{ParsedPattern}
-use Rattle.parsing.specs.declared.patterns.Outcome.{Outcome}
-use Rattle.parsing.specs.declared.patterns.Outcome.the-variants.{Accepted, Refused}
+use Rattle.errors.specs.declared.Outcome.{Outcome}
+use Rattle.errors.specs.declared.Outcome.the-variants.{Accepted, Refused}
 use Rattle.parsing.specs.Reading.{Var, Element, vars, Reading, read, refused, behind}
 
--- 01's number of an answer, 0 where the list was read
-abbrev pub answerNumber : Outcome → ℕ
-answerNumber Accepted = 0
-answerNumber (Refused r) = numberOf r
-
+-- 01's number of a reading, 0 where the list was read
 abbrev pub readingNumber : Reading → ℕ
 readingNumber (read es) = 0
 readingNumber (refused r) = numberOf r

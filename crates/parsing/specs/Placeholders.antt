@@ -14,8 +14,8 @@ use Rattle.parsing.specs.declared.patterns.Parsed.{Parsed}
 use Rattle.parsing.specs.declared.patterns.Step.{Step}
 use Rattle.parsing.specs.declared.patterns.Step.the-variants.{At, Refused}
 use Rattle.parsing.specs.declared.patterns.Range.{Range}
-use Rattle.parsing.specs.declared.patterns.Outcome.{Outcome}
-use Rattle.parsing.specs.declared.patterns.Outcome.the-variants.{Accepted, Refused as Stopped}
+use Rattle.errors.specs.declared.Outcome.{Outcome}
+use Rattle.errors.specs.declared.Outcome.the-variants.{Accepted, Refused as Stopped}
 use Rattle.parsing.specs.Reading.{Var, Element, placeholder, vars, Next, go, stop, Open, Name, named, State, Reading, refused, dollar, inside, top, isDollar, nameOf, run, follow, ended, endedAs}
 use Rattle.parsing.specs.Answers.{patternOf, Eight, Fifty}
 

@@ -1,6 +1,7 @@
 // Placeholders, and a whole token list.
 use crate::constraints;
 use crate::constraints::Inside;
+use errors::Outcome;
 use errors::Refusal;
 use tokens::Cursor;
 use tokens::Token;
@@ -11,7 +12,8 @@ ghost use Prim.Native.Nat.{_+_, _*_, _<_, _≤_};
 ghost use lib.ListN.{length, take};
 ghost use Rattle.tokens.specs.Tokens.{Along, isTokenList};
 ghost use Rattle.parsing.specs.Reading.{reading, refused as refusedWith, brace, dollar};
-ghost use Rattle.parsing.specs.Answers.{Eight, Fifty, emptyPattern, nameIndex, answerOf, answerNumber, readingNumber};
+ghost use Rattle.errors.specs.Refusals.{outcomeNumber};
+ghost use Rattle.parsing.specs.Answers.{Eight, Fifty, emptyPattern, nameIndex, answerOf, readingNumber};
 ghost use Rattle.parsing.specs.Placeholders.{BracesRead, EndRead, NamedRead, PlaceholderRead, PlainRead};
 
 // Bytes of the list's text.
@@ -35,12 +37,6 @@ pub struct Pattern {
     pub constraints: usize,
 }
 
-// Whether a list or a pair is accepted.
-pub enum Outcome {
-    Accepted,
-    Refused(Refusal),
-}
-
 // The answer of reading tokens; a refusal comes with no placeholders.
 pub struct ParsedPattern {
     pub outcome: Outcome,
@@ -61,7 +57,7 @@ pub struct Parsed {
 
 // Whether a placeholder was taken in, and the placeholders then.
 pub struct Ended {
-    pub refusal: Outcome,
+    pub outcome: Outcome,
     pub pattern: Pattern,
 }
 
@@ -145,18 +141,18 @@ fn end_placeholder(
 ) -> Ended
     requires { ⌜ Eight pattern ⌝ }
     requires { ⌜ name .start + name .length < 4294967296 ⌝ }
-    ensures { λ r. ⌜ EndRead (now (text .entry)) pattern constraints whole name (r .refusal) (r .pattern) ⌝ }
+    ensures { λ r. ⌜ EndRead (now (text .entry)) pattern constraints whole name (r .outcome) (r .pattern) ⌝ }
 {
     let n = pattern.count;
     if find_name(text, pattern, tokens::text_at(text, name)) < n {
         return Ended {
-            refusal: Outcome::Refused(Refusal::RepeatedName),
+            outcome: Outcome::Refused(Refusal::RepeatedName),
             pattern,
         };
     }
     if 8 <= n {
         return Ended {
-            refusal: Outcome::Refused(Refusal::NinthPlaceholder),
+            outcome: Outcome::Refused(Refusal::NinthPlaceholder),
             pattern,
         };
     }
@@ -172,7 +168,7 @@ fn end_placeholder(
     };
     read.count = n + 1;
     Ended {
-        refusal: Outcome::Accepted,
+        outcome: Outcome::Accepted,
         pattern: read,
     }
 }
@@ -194,8 +190,8 @@ fn take_named(
         let end = d.at;
         let e = end_placeholder(text, pattern, constraints, Range { start, end }, name);
         let read = e.pattern;
-        let refusal = e.refusal;
-        return match refusal {
+        let outcome = e.outcome;
+        return match outcome {
             Outcome::Accepted => Parsed {
                 step: Step::At(d),
                 pattern: read,
@@ -338,7 +334,7 @@ fn parse_list(words: &[u32], text: &[u8]) -> ParsedPattern
 // Reading tokens: the placeholders in list order, or the first refusal met from the left.
 pub fn parse_pattern(words: &[u32], text: &[u8]) -> ParsedPattern
     ensures { λ r. ⌜ r ≡ answerOf (reading (now (words .entry)) (now (text .entry))) ⌝ }
-    ensures { λ r. ⌜ answerNumber (r .outcome) ≡ readingNumber (reading (now (words .entry)) (now (text .entry))) ⌝ }
+    ensures { λ r. ⌜ outcomeNumber (r .outcome) ≡ readingNumber (reading (now (words .entry)) (now (text .entry))) ⌝ }
     ensures { λ r. ⌜ Eight (r .pattern) ⌝ }
 {
     if tokens::is_token_list(words, text) {

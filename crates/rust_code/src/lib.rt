@@ -1,7 +1,7 @@
 // Writing raw code: `as_rust_code` of docs/src/src/parsing.rs.
+use errors::Outcome;
 use errors::Refusal;
 use parsing::patterns;
-use parsing::patterns::Outcome;
 use parsing::patterns::Pattern;
 use parsing::patterns::Placeholder;
 use words::buffer;

@@ -7,7 +7,8 @@ use lib.Dec.{eqb}
 use Rattle.parsing.specs.declared.patterns.Placeholder.{Placeholder}
 use Rattle.parsing.specs.declared.patterns.ParsedPattern.{ParsedPattern}
 use Rattle.parsing.specs.Reading.{Reading}
-use Rattle.parsing.specs.Answers.{answerOf, answerNumber}
+use Rattle.errors.specs.Refusals.{outcomeNumber}
+use Rattle.parsing.specs.Answers.{answerOf}
 use Rattle.validating.specs.Pairs.{pairOutcome}
 use Rattle.rust_code.specs.declared.Written.{Written}
 use Rattle.rust_code.specs.RawCode.{writtenNumber, writtenLength}
@@ -20,7 +21,7 @@ abbrev pub nameOf : Placeholder → NamedPlaceholder
 nameOf p = record { start = p .name .start; end = p .name .end; constraints = p .constraints }
 
 abbrev pub tokensOf : ParsedPattern → ReadTokens
-tokensOf p = record { refusal = answerNumber (p .outcome); count = p .pattern .count; placeholders = map nameOf (p .pattern .placeholders); constraints = p .pattern .constraints; nots = p .pattern .nots }
+tokensOf p = record { refusal = outcomeNumber (p .outcome); count = p .pattern .count; placeholders = map nameOf (p .pattern .placeholders); constraints = p .pattern .constraints; nots = p .pattern .nots }
 
 -- reading tokens
 abbrev pub tokensRead : Reading → ReadTokens
@@ -28,7 +29,7 @@ tokensRead r = tokensOf (answerOf r)
 
 -- checking a pair: 01's number, 0 for a pair that is fine
 abbrev pub pairNumber : List ℕ → List ℕ → ℕ → List ℕ → List ℕ → ℕ
-pairNumber words text given words′ text′ = answerNumber (pairOutcome words text (not (eqb given 0)) words′ text′)
+pairNumber words text given words′ text′ = outcomeNumber (pairOutcome words text (not (eqb given 0)) words′ text′)
 
 -- writing raw code: 01's number and the code's length
 abbrev pub codeWritten : Written → RawCode

@@ -1,6 +1,5 @@
 // The C ABI: one exported function for each operation of document 01, thin. include/ssr.h declares them.
 use parsing::patterns;
-use parsing::patterns::Outcome;
 use parsing::patterns::Placeholder;
 use rust_code::Written;
 ghost use mathlib.Core.Path.{_≡_};
@@ -8,7 +7,6 @@ ghost use mathlib.Core.List.{map};
 ghost use lib.ListN.{length};
 ghost use Rattle.words.specs.Buffer.{usedOf, filled};
 ghost use Rattle.parsing.specs.Reading.{reading};
-ghost use Rattle.parsing.specs.Answers.{answerNumber};
 ghost use Rattle.rust_code.specs.RawCode.{codeAnswer, codeBytes};
 ghost use Rattle.ssr.specs.Exports.{nameOf, tokensRead, pairNumber, codeWritten};
 
@@ -28,16 +26,6 @@ pub struct ReadTokens {
     pub placeholders: [NamedPlaceholder; 8],
     pub constraints: usize,
     pub nots: [u8; 50],
-}
-
-// 01's number of an outcome, 0 where nothing is refused.
-fn number_of(outcome: Outcome) -> u32
-    ensures { λ r. ⌜ r ≡ answerNumber outcome ⌝ }
-{
-    match outcome {
-        Outcome::Accepted => 0,
-        Outcome::Refused(r) => errors::number_of(r),
-    }
 }
 
 // The names of eight placeholders.
@@ -81,7 +69,7 @@ pub extern "C" fn ssr_read_tokens(words: &[u32], text: &[u8]) -> ReadTokens
     let places = pattern.placeholders;
     let nots = pattern.nots;
     ReadTokens {
-        refusal: number_of(outcome),
+        refusal: errors::outcome_number(outcome),
         count: pattern.count,
         placeholders: names_of(places),
         constraints: pattern.constraints,
@@ -100,7 +88,7 @@ pub extern "C" fn ssr_check_pair(
 ) -> u32
     ensures { λ r. ⌜ r ≡ pairNumber (now (words .entry)) (now (text .entry)) given (now (others .entry)) (now (other .entry)) ⌝ }
 {
-    number_of(validating::validate_rule(words, text, given != 0, others, other))
+    errors::outcome_number(validating::validate_rule(words, text, given != 0, others, other))
 }
 
 // Writing raw code into a buffer.

@@ -7,10 +7,10 @@ use mathlib.Core.List.{List, [], _∷_}
 use lib.Dec.{ltb}
 use lib.ListN.{length}
 use Rattle.errors.specs.declared.Refusal.the-variants.{TemplateConstraint, UndefinedPlaceholder}
-use Rattle.errors.specs.Refusals.{lowerOf}
+use Rattle.errors.specs.Refusals.{lowestOf}
 use Rattle.tokens.specs.Tokens.{tokenText}
-use Rattle.parsing.specs.declared.patterns.Outcome.{Outcome}
-use Rattle.parsing.specs.declared.patterns.Outcome.the-variants.{Accepted, Refused}
+use Rattle.errors.specs.declared.Outcome.{Outcome}
+use Rattle.errors.specs.declared.Outcome.the-variants.{Accepted, Refused}
 use Rattle.parsing.specs.Reading.{Var, vars, Reading, read, refused, reading, hasName}
 use Rattle.parsing.specs.Answers.{answerOf}
 
@@ -31,7 +31,7 @@ checkedPair pattern ps template ts =
     (cond (definesAll pattern ps template ts) Accepted (Refused UndefinedPlaceholder))
 
 abbrev pub bothLists : List ℕ → Reading → List ℕ → Reading → Outcome
-bothLists pattern (refused r) template (refused s) = Refused (lowerOf r s)
+bothLists pattern (refused r) template (refused s) = lowestOf (Refused r) (Refused s)
 bothLists pattern (refused r) template (read fs) = Refused r
 bothLists pattern (read es) template (refused s) = Refused s
 bothLists pattern (read es) template (read fs) = checkedPair pattern (vars es) template (vars fs)

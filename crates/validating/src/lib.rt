@@ -1,14 +1,14 @@
 // Checking a pair: `validate_rule` of docs/src/src/parsing.rs, over token lists.
+use errors::Outcome;
 use errors::Refusal;
 use parsing::patterns;
-use parsing::patterns::Outcome;
 use parsing::patterns::ParsedPattern;
 use parsing::patterns::Pattern;
 use words::texts;
 ghost use mathlib.Core.Path.{_≡_};
 ghost use mathlib.Core.List.{List, []};
 ghost use Rattle.parsing.specs.Reading.{Var, Reading};
-ghost use Rattle.parsing.specs.Answers.{Eight, patternOf, answerOf, answerNumber};
+ghost use Rattle.parsing.specs.Answers.{Eight, patternOf, answerOf};
 ghost use Rattle.validating.specs.Pairs.{definesAll, checkedPair, bothLists, pairOutcome};
 
 // Whether every placeholder of the template has its name in the pattern.
@@ -80,7 +80,7 @@ fn validate_lists(
         },
         Outcome::Refused(r) => match t {
             Outcome::Accepted => Outcome::Refused(r),
-            Outcome::Refused(s) => Outcome::Refused(errors::lower(r, s)),
+            Outcome::Refused(s) => errors::lowest(Outcome::Refused(r), Outcome::Refused(s)),
         },
     }
 }

@@ -35,7 +35,7 @@ returns-4 : tie.Need-returns-4
 returns-4 c =
     let c₂ = c .before .before in let c₅ = c₂ .before .before .before in let c₉ = c₅ .before .before .before .before in
     let a = c₉ .args in λ p t h k. let x = was-refused p (a .pattern) (c₅ .p .given .0 .0) h (c₅ .p .given .1) in let y = was-refused t (a .template)
-    (c₂ .t2 .given .0 .0) k (c₂ .t2 .given .1) in rw (x, y, c .lower .ensures)
+    (c₂ .t2 .given .0 .0) k (c₂ .t2 .given .1) in rw (x, y) (c .lowest .ensures)
 
 pub validate-lists-spec : {M : Type 1} → statement M
 validate-lists-spec =

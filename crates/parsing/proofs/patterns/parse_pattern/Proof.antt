@@ -1,7 +1,8 @@
 -- `parsing::patterns::parse_pattern` meets its contract.
 -- Assumes nothing.
 use Rattle.parsing.proofs.ListLaws.{read-malformed, number-of-answer}
-use Rattle.parsing.specs.Answers.{answerOf, answerNumber}
+use Rattle.errors.specs.Refusals.{outcomeNumber}
+use Rattle.parsing.specs.Answers.{answerOf}
 use Rattle.parsing.specs.Reading.{reading}
 use denote.Ref.{now}
 use Prim.Native.Nat.{_+_, _<_, _≤_}
@@ -19,7 +20,7 @@ returns c =
     let a = c₅ .args in let e = c .parse-list .ensures .0 in (
       e,
       (
-        ap (λ x. answerNumber (x .outcome)) e ∙ number-of-answer (reading (now (a .words))
+        ap (λ x. outcomeNumber (x .outcome)) e ∙ number-of-answer (reading (now (a .words))
             (now (a .text))),
         c .parse-list .ensures .1,
       ),
@@ -32,7 +33,7 @@ returns-2 c =
     c .refused .ensures .0 ∙ ap answerOf (sym (read-malformed w t (sym (c₂ .is-token-list .ensures) ∙ c₁ .if1 .left))) in (
       e,
       (
-        ap (λ x. answerNumber
+        ap (λ x. outcomeNumber
             (x .outcome)) e ∙ number-of-answer (reading w t),
         c .refused .ensures .1,
       ),

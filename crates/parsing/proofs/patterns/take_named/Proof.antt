@@ -18,7 +18,7 @@ returns c =
 returns-2 : tie.Need-returns-2
 returns-2 c =
     let c₁ = c .before in let c₄ = c₁ .before .before .before in let c₅ = c₄ .before in let c₈ = c₅ .before .before .before in
-    let k = rw (c₁ .refusal .given .1) at (c₄ .end-placeholder .ensures) in let i : isIdent (c₈ .args .name) ≡ true = eq-eqb _ _ (c₅ .if1 .taken) in
+    let k = rw (c₁ .outcome .given .1) at (c₄ .end-placeholder .ensures) in let i : isIdent (c₈ .args .name) ≡ true = eq-eqb _ _ (c₅ .if1 .taken) in
     λ acc ns h. rw i (k acc ns h)
 
 returns-3 : tie.Need-returns-3

@@ -1,0 +1,90 @@
+-- `syntax::checking::is_shallow` meets its contract.
+-- Assumes nothing.
+use mathlib.Core.Path.{_≡_, sym, ap, _∙_}
+use mathlib.Core.Bool.{Bool, true, false}
+use denote.Ref.{now}
+use lib.Dec.{leb}
+use lib.ListN.{length}
+use native.Mathlib.Omega.{arith}
+use Rattle.syntax.specs.Parts.{span}
+use Rattle.syntax.specs.Trees.{depth, elems}
+use Rattle.syntax.proofs.PartLaws.{rest-shorter}
+use Rattle.syntax.proofs.DepthLaws.{shallow-end, shallow-zero, shallow-next}
+use Prim.Native.Nat.{ℕ, _+_, _<_}
+use borrow.Fn.Kinds.{In}
+use borrow.Fn.PlainCycle.{Measures, is, falls, and}
+use Rattle.syntax.proofs.checking.is_shallow.Reads as is-shallow
+use Rattle.syntax.proofs.checking.is_shallow.Kinds as is-shallow-kinds
+use Rattle.syntax.proofs.checking.+is_shallow.Lts-is_shallow as is-shallow-lts
+use Rattle.syntax.proofs.parts.children.Reads as children-reads
+use Rattle.syntax.proofs.parts.rest.Reads as rest-reads
+use Rattle.syntax.proofs.checking.+is_shallow.{statement}
+use Rattle.syntax.proofs.checking.+is_shallow.Tie.{close}
+
+abbrev μ-is-shallow : Measures 1 is-shallow-kinds.ps ℕ
+μ-is-shallow κs a = a .1 .0
+
+abbrev is-shallow-at : ℕ → In 1 is-shallow-kinds.ps
+is-shallow-at t =
+    and 1 is-shallow-kinds.ps (is 1 is-shallow-kinds.ps μ-is-shallow t) is-shallow.Pre
+
+abbrev is-shallow-below : ℕ → In 1 is-shallow-kinds.ps
+is-shallow-below t =
+    and 1 is-shallow-kinds.ps (falls 1 is-shallow-kinds.ps _<_ μ-is-shallow t) is-shallow.Pre
+
+-- what it may take of each function that it calls, at the measure t
+abbrev is-shallow-claims : ℕ → is-shallow-lts.Claims
+is-shallow-claims t = (children-reads.Asked, children-reads.Learnt, is-shallow-below t, is-shallow.Post, rest-reads.Asked, rest-reads.Learnt)
+
+abbrev is-shallow-Inv-loop : is-shallow-lts.InvT-loop
+is-shallow-Inv-loop part levels c₀ c = (b : Bool) → ((j : ℕ) → b ≡ leb (depth (elems j c)) levels) → (i : ℕ) → b ≡ leb (depth (elems i part)) levels
+
+abbrev is-shallow-μ-loop : is-shallow-lts.MeasureT-loop
+is-shallow-μ-loop part levels c₀ c = length c
+
+is-shallow-loop-holds : (t : ℕ) → is-shallow-lts.Need-loop-holds (is-shallow-claims t) (is-shallow-at t) is-shallow.Post is-shallow-Inv-loop is-shallow-μ-loop
+is-shallow-loop-holds t c = λ b f. f
+
+is-shallow-returns : (t : ℕ) → is-shallow-lts.Need-returns (is-shallow-claims t) (is-shallow-at t) is-shallow.Post is-shallow-Inv-loop is-shallow-μ-loop
+is-shallow-returns t c = c .before .before .loop .inv false (λ j. sym (rw (c .if1 .taken) (shallow-zero j (now (c .before .before .loop .c)) (c .before .loop-test .taken))))
+
+is-shallow-children-requires : (t : ℕ) → is-shallow-lts.Need-children-requires (is-shallow-claims t) (is-shallow-at t) is-shallow.Post is-shallow-Inv-loop is-shallow-μ-loop
+is-shallow-children-requires t c κs = tt
+
+is-shallow-sub-is-shallow : (t : ℕ) → is-shallow-lts.Need-sub-is-shallow (is-shallow-claims t) (is-shallow-at t) is-shallow.Post is-shallow-Inv-loop is-shallow-μ-loop
+is-shallow-sub-is-shallow t c = omega (arith, c .before .if1 .left)
+
+is-shallow-is-shallow-requires : (t : ℕ) → is-shallow-lts.Need-is-shallow-requires (is-shallow-claims t) (is-shallow-at t) is-shallow.Post is-shallow-Inv-loop is-shallow-μ-loop
+is-shallow-is-shallow-requires t c κs = (omega arith, tt)
+
+is-shallow-rest-requires : (t : ℕ) → is-shallow-lts.Need-rest-requires (is-shallow-claims t) (is-shallow-at t) is-shallow.Post is-shallow-Inv-loop is-shallow-μ-loop
+is-shallow-rest-requires t c κs = tt
+
+is-shallow-loop-less : (t : ℕ) → is-shallow-lts.Need-loop-less (is-shallow-claims t) (is-shallow-at t) is-shallow.Post is-shallow-Inv-loop is-shallow-μ-loop
+is-shallow-loop-less t c = omega (arith, ap length (c .rest .ensures), rest-shorter (now (c .before .before .before .before .before .before .loop .c)) (omega (arith, c .before .before .before .before .before .loop-test .taken)))
+
+is-shallow-loop-again : (t : ℕ) → is-shallow-lts.Need-loop-again (is-shallow-claims t) (is-shallow-at t) is-shallow.Post is-shallow-Inv-loop is-shallow-μ-loop
+is-shallow-loop-again t c = λ b f. c .before .before .before .before .before .before .loop .inv b (λ j. f (j + span (now (c .before .before .before .before .before .before .loop .c))) ∙ sym (shallow-next j (now (c .before .before .before .before .before .before .loop .c)) _ (c .before .before .before .before .before .loop-test .taken) (omega (arith, c .before .before .before .before .if1 .left)) ∙ rw (← c .before .before .before .children .ensures, ← c .before .before .is-shallow .ensures (j + 1), c .before .if2 .taken, ← c .rest .ensures)))
+
+is-shallow-returns-2 : (t : ℕ) → is-shallow-lts.Need-returns-2 (is-shallow-claims t) (is-shallow-at t) is-shallow.Post is-shallow-Inv-loop is-shallow-μ-loop
+is-shallow-returns-2 t c = c .before .before .before .before .before .loop .inv false (λ j. sym (shallow-next j (now (c .before .before .before .before .before .loop .c)) _ (c .before .before .before .before .loop-test .taken) (omega (arith, c .before .before .before .if1 .left)) ∙ rw (← c .before .before .children .ensures, ← c .before .is-shallow .ensures (j + 1), c .if2 .left)))
+
+is-shallow-returns-3 : (t : ℕ) → is-shallow-lts.Need-returns-3 (is-shallow-claims t) (is-shallow-at t) is-shallow.Post is-shallow-Inv-loop is-shallow-μ-loop
+is-shallow-returns-3 t c = c .before .loop .inv true (λ j. sym (shallow-end j (now (c .before .loop .c)) _ (omega (arith, c .loop-test .left))))
+
+pub +is-shallow-spec : {M : Type 1} → statement M
++is-shallow-spec = close μ-is-shallow λ t. is-shallow-lts.spec (is-shallow-claims t)
+    (is-shallow-at t)
+    is-shallow.Post
+    is-shallow-Inv-loop
+    is-shallow-μ-loop
+    (is-shallow-loop-holds t)
+    (is-shallow-returns t)
+    (is-shallow-children-requires t)
+    (is-shallow-sub-is-shallow t)
+    (is-shallow-is-shallow-requires t)
+    (is-shallow-rest-requires t)
+    (is-shallow-loop-less t)
+    (is-shallow-loop-again t)
+    (is-shallow-returns-2 t)
+    (is-shallow-returns-3 t)

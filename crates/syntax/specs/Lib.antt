@@ -1,0 +1,5 @@
+pub mod Parts
+pub mod Trees
+pub mod Accessors
+pub mod Checks
+pub mod Rows
