@@ -1,9 +1,10 @@
 -- What each exported function answers.
 -- Assumes nothing.
 use Prim.Native.Nat.{ℕ}
-use mathlib.Core.Bool.{not}
+use mathlib.Core.Bool.{cond, not}
 use mathlib.Core.List.{List, map}
 use lib.Dec.{eqb}
+use lib.ListN.{length}
 use Rattle.parsing.specs.declared.patterns.Placeholder.{Placeholder}
 use Rattle.parsing.specs.declared.patterns.ParsedPattern.{ParsedPattern}
 use Rattle.parsing.specs.Reading.{Reading}
@@ -12,6 +13,9 @@ use Rattle.parsing.specs.Answers.{answerOf}
 use Rattle.validating.specs.Pairs.{pairOutcome}
 use Rattle.rust_code.specs.declared.Written.{Written}
 use Rattle.rust_code.specs.RawCode.{writtenNumber, writtenLength}
+use Rattle.facts.specs.declared.Owner.{Owner}
+use Rattle.facts.specs.declared.Owner.the-variants.{Pattern, Template}
+use Rattle.trees.specs.Given.{fileOutcome, givenOutcome}
 use Rattle.ssr.specs.declared.RawCode.{RawCode}
 use Rattle.ssr.specs.declared.NamedPlaceholder.{NamedPlaceholder}
 use Rattle.ssr.specs.declared.ReadTokens.{ReadTokens}
@@ -34,3 +38,15 @@ pairNumber words text given words′ text′ = outcomeNumber (pairOutcome words 
 -- writing raw code: 01's number and the code's length
 abbrev pub codeWritten : Written → RawCode
 codeWritten w = record { refusal = writtenNumber w; length = writtenLength w }
+
+-- a rule's tree is the pattern's where its side is 0
+abbrev pub sideOwner : ℕ → Owner
+sideOwner side = cond (eqb side 0) Pattern Template
+
+-- the file's tree with its facts, and a rule's: 01's number, 0 where nothing is refused
+abbrev pub fileNumber : List ℕ → List ℕ → List ℕ → ℕ
+fileNumber words text facts = outcomeNumber (fileOutcome words text facts)
+
+abbrev pub ruleTreeNumber : ℕ → List ℕ → List ℕ → ℕ → List ℕ → List ℕ → List ℕ → List ℕ → ℕ
+ruleTreeNumber given list text side words code facts factText =
+    outcomeNumber (givenOutcome (not (eqb given 0)) list text (sideOwner side) words code facts (length factText))

@@ -1,4 +1,5 @@
 // The C ABI: one exported function for each operation of document 01, thin. include/ssr.h declares them.
+use facts::Owner;
 use parsing::patterns;
 use parsing::patterns::Placeholder;
 use rust_code::Written;
@@ -8,7 +9,7 @@ ghost use lib.ListN.{length};
 ghost use Rattle.words.specs.Buffer.{usedOf, filled};
 ghost use Rattle.parsing.specs.Reading.{reading};
 ghost use Rattle.rust_code.specs.RawCode.{codeAnswer, codeBytes};
-ghost use Rattle.ssr.specs.Exports.{nameOf, tokensRead, pairNumber, codeWritten};
+ghost use Rattle.ssr.specs.Exports.{nameOf, tokensRead, pairNumber, codeWritten, sideOwner, fileNumber, ruleTreeNumber};
 
 // A placeholder: the bytes of its name in the list's text, and how many constraints it has.
 #[repr(C)]
@@ -107,4 +108,50 @@ pub extern "C" fn ssr_raw_code(words: &[u32], text: &[u8], out: &mut [u8]) -> Ra
             length: 0,
         },
     }
+}
+
+// The owner of a rule's tree: the pattern's where the side is 0.
+fn owner_of(side: u32) -> Owner
+    ensures { λ r. ⌜ r ≡ sideOwner side ⌝ }
+{
+    if side == 0 {
+        return Owner::Pattern;
+    }
+    Owner::Template
+}
+
+// The file's tree with its facts: 01's number.
+#[no_mangle]
+pub extern "C" fn ssr_check_file(words: &[u32], text: &[u8], facts: &[u32]) -> u32
+    ensures { λ r. ⌜ r ≡ fileNumber (now (words .entry)) (now (text .entry)) (now (facts .entry)) ⌝ }
+{
+    errors::outcome_number(trees::check_file(words, text, facts))
+}
+
+// A rule's tree with its facts, and its list, which is given unless the flag is 0: 01's number.
+#[no_mangle]
+pub extern "C" fn ssr_check_rule_tree(
+    given: u32,
+    list: &[u32],
+    text: &[u8],
+    side: u32,
+    words: &[u32],
+    code: &[u8],
+    facts: &[u32],
+    fact_text: &[u8],
+) -> u32
+    ensures { λ r. ⌜ r ≡ ruleTreeNumber given (now (list .entry)) (now (text .entry)) side (now (words .entry)) (now (code .entry)) (now (facts .entry)) (now («fact_text» .entry)) ⌝ }
+{
+    let owner = owner_of(side);
+    let bytes = fact_text.len();
+    errors::outcome_number(trees::check_given_tree(
+        given != 0,
+        list,
+        text,
+        owner,
+        words,
+        code,
+        facts,
+        bytes,
+    ))
 }

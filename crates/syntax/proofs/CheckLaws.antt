@@ -7,20 +7,12 @@ use Prim.Native.Nat.{ℕ, _/_, _≤_}
 use lib.ListN.{length}
 use lib.Dec.{leb, ltb}
 use borrow.Author.Tests.{ltb-false, leb-true, leb-false, le-ltb, lt-ltb}
-use Rattle.errors.specs.declared.Outcome.{Outcome}
-use Rattle.errors.specs.declared.Refusal.{Refusal}
 use Rattle.errors.specs.declared.Outcome.the-variants.{Accepted, Refused}
 use Rattle.errors.specs.declared.Refusal.the-variants.{TreeTooLarge, MalformedTree, TreeTooDeep}
 use Rattle.errors.specs.Refusals.{firstOf}
+use Rattle.errors.proofs.Laws.{refused-not}
 use Rattle.syntax.specs.Trees.{tree, tiles, isTree, depth}
 use Rattle.syntax.specs.Checks.{isTooLarge, treeOutcome, WellFormed}
-
-refused-not : {r : Refusal} → Refused r ≡ Accepted → ⊥
-refused-not {r} h = false≢true (ap passes h)
-  where
-    passes : Outcome → Bool
-    passes Accepted = true
-    passes (Refused r) = false
 
 neither : (a b : Bool) → (a || b) ≡ false → (a ≡ false) × (b ≡ false)
 neither true b h = absurd (false≢true (sym h))

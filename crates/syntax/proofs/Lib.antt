@@ -10,3 +10,4 @@ pub mod CheckLaws
 pub mod Places
 pub mod AccessorLaws
 pub mod Unique
+pub mod Ancestors

@@ -61,12 +61,12 @@ looks-first n none d p h = absurd h
 looks-first n (token i k s e r) d p h = h
 looks-first n (node i k s e cs r) d p h = h
 
-behind-token : (i n w s e : ℕ) (l : List ℕ) → i < n → drop ((n - i) * 3) (w ∷ s ∷ e ∷ l) ≡ drop ((n - (i + 1)) * 3) l
+pub behind-token : (i n w s e : ℕ) (l : List ℕ) → i < n → drop ((n - i) * 3) (w ∷ s ∷ e ∷ l) ≡ drop ((n - (i + 1)) * 3) l
 behind-token i n w s e l h =
     let q : (n - i) * 3 ≡ suc (suc (suc ((n - (i + 1)) * 3))) = omega arith in
     ap (λ (x : ℕ). drop x (w ∷ s ∷ e ∷ l)) q
 
-behind-node : (i n w s e : ℕ) (cs : Elems) (l : List ℕ) → i + (1 + size cs) ≤ n → drop ((n - i) * 3) (w ∷ s ∷ e ∷ words cs ++ l) ≡ drop ((n - (i + (1 + size cs))) * 3) l
+pub behind-node : (i n w s e : ℕ) (cs : Elems) (l : List ℕ) → i + (1 + size cs) ≤ n → drop ((n - i) * 3) (w ∷ s ∷ e ∷ words cs ++ l) ≡ drop ((n - (i + (1 + size cs))) * 3) l
 behind-node i n w s e cs l h =
     let lc = length-words cs in
     let q : (n - (i + 1)) * 3 ≡ length (words cs) + (n - (i + (1 + size cs))) * 3 = omega arith in
@@ -92,7 +92,7 @@ good-children i j k s e cs r g =
     let o = tiles-order r e (g .to) (h .inside) (h .good) in
     record { from = s; to = e; inside = h .below; good = h .children; small = omega (arith, g .small); few = omega (arith, g .few); numbered = g .numbered .1 }
 
-looks-token : (n i k s e : ℕ) (r : Elems) (more : List ℕ) → Good i (token i k s e r) → Looks n (token i k s e r) (words (token i k s e r) ++ more)
+pub looks-token : (n i k s e : ℕ) (r : Elems) (more : List ℕ) → Good i (token i k s e r) → Looks n (token i k s e r) (words (token i k s e r) ++ more)
 unfolding words
 looks-token n i k s e r more g =
     let h = token-good i k s e (g .from) (g .to) r (g .inside) (g .good) in
@@ -101,7 +101,7 @@ looks-token n i k s e r more g =
     let b : e < 268435456 = omega (arith, g .small) in
     (token-is k s e l (h .high) (h .full) b, token-not k s e l (h .high) (h .full) b, token-kind k s e l (h .high) (h .full) b)
 
-looks-node : (n k s e : ℕ) (cs r : Elems) (more : List ℕ) → Good n (node n k s e cs r) → Looks n (node n k s e cs r) (words (node n k s e cs r) ++ more)
+pub looks-node : (n k s e : ℕ) (cs r : Elems) (more : List ℕ) → Good n (node n k s e cs r) → Looks n (node n k s e cs r) (words (node n k s e cs r) ++ more)
 unfolding words size
 looks-node n k s e cs r more g =
     let h = node-good n k s e (g .from) (g .to) cs r (g .inside) (g .good) in
@@ -166,7 +166,7 @@ tree-good l w =
     let lw : size (tree l) * 3 ≡ length l = sym (length-words (tree l)) ∙ ap length (b .are) in
     record { from = 0; to = w .bytes; inside = b .inside; good = b .good; small = omega (arith, w .small); few = omega (arith, w .few, lw); numbered = b .numbered }
 
-tree-size : (l : List ℕ) → WellFormed l → size (tree l) * 3 ≡ length l
+pub tree-size : (l : List ℕ) → WellFormed l → size (tree l) * 3 ≡ length l
 tree-size l w = sym (length-words (tree l)) ∙ ap length (tree-built (w .bytes) l (w .small) (w .few) (w .is) .are)
 
 tree-at : (l : List ℕ) (w : WellFormed l) (n : ℕ) → n < size (tree l) → Looks n (elementAt n (tree l)) (drop (n * 3) l)

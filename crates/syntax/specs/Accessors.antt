@@ -10,6 +10,7 @@ use lib.ListN.{length}
 use Rattle.words.specs.Texts.{part}
 use Rattle.syntax.specs.Trees.{Elems, none, token, node}
 use Rattle.syntax.specs.declared.parts.Range.{Range}
+use Rattle.syntax.specs.declared.accessors.Standing.{Standing}
 
 -- the children of the first element, and what follows it
 abbrev pub children : Elems → Elems
@@ -109,3 +110,6 @@ lastButOne n (i ∷ (j ∷ l)) = lastButOne i (j ∷ l)
 
 abbrev pub parentOf : ℕ → Elems → ℕ
 parentOf n c = lastButOne n (ancestors n c)
+
+abbrev pub standing : ℕ → Elems → Standing
+standing n c = record { depth = depthOf n c; parent = parentOf n c }

@@ -7,7 +7,7 @@ ghost use mathlib.Core.Path.{_≡_};
 ghost use Prim.Native.Nat.{ℕ, _+_, _*_, _<_};
 ghost use lib.ListN.{drop};
 ghost use Rattle.syntax.specs.Trees.{elems, tree};
-ghost use Rattle.syntax.specs.Accessors.{children, rangeOf, nodeIn, tokenIn, findNode, firstToken, onlyIdent, elementAt};
+ghost use Rattle.syntax.specs.Accessors.{children, rangeOf, nodeIn, tokenIn, findNode, firstToken, onlyIdent, elementAt, standing};
 ghost use Rattle.syntax.specs.Checks.{WellFormed};
 
 // The range of the first element.
@@ -125,4 +125,34 @@ pub fn is_token_within(words: &[u32], number: usize, inner: usize) -> bool
         return is_token_in(fields::tail(words, inner * 3), 1, 1023);
     }
     false
+}
+
+// Where an element stands: how many ancestors it has, itself counted, and its parent's number, its own where it has none.
+pub struct Standing {
+    pub depth: usize,
+    pub parent: usize,
+}
+
+// Where the element of a number stands; none has no ancestors. It goes by siblings and down, never back.
+pub fn standing_of(words: &[u32], number: usize) -> Standing
+    requires { ⌜ WellFormed (now words) ⌝ }
+    ensures { λ r. ⌜ r ≡ standing number (tree (now (words .entry))) ⌝ }
+{
+    let mut depth: usize = 1;
+    let mut parent = number;
+    if words.len() / 3 <= number {
+        return Standing { depth: 0, parent };
+    }
+    let mut at: usize = 0;
+    while at < number {
+        let next = at + parts::span_of(fields::tail(words, at * 3));
+        if next <= number {
+            at = next;
+        } else {
+            parent = at;
+            depth += 1;
+            at += 1;
+        }
+    }
+    Standing { depth, parent }
 }

@@ -1,0 +1,2 @@
+-- Laws of the definitions of specs/, for those above.
+pub mod Laws

@@ -1,0 +1,18 @@
+-- `facts::checking::is_allowed` meets its contract.
+-- Assumes nothing.
+use borrow.Author.Needs.{needs}
+use Rattle.facts.proofs.checking.is_allowed.Statement.{statement}
+use Rattle.facts.proofs.checking.is_allowed.Tie as tie
+
+returns : tie.Need-returns
+returns c = rw (c .enum-told .given .1)
+
+returns-2 : tie.Need-returns-2
+returns-2 c = rw (c .enum-told2 .given .1)
+
+returns-3 : tie.Need-returns-3
+returns-3 c = rw (c .enum-told3 .given .1)
+
+pub is-allowed-spec : {M : Type 1} → statement M
+is-allowed-spec =
+    tie.close (tie.spec (λ c. search needs) (λ c. search needs) (λ c. search needs) returns returns-2 returns-3)

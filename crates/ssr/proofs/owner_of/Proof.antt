@@ -1,0 +1,14 @@
+-- `ssr::owner_of` meets its contract.
+-- Assumes nothing.
+use borrow.Author.Tests.{eq-eqb, ne-eqb}
+use Rattle.ssr.proofs.owner_of.Statement.{statement}
+use Rattle.ssr.proofs.owner_of.Tie as tie
+
+returns : tie.Need-returns
+returns c = rw (eq-eqb _ _ (c .if1 .taken))
+
+returns-2 : tie.Need-returns-2
+returns-2 c = rw (ne-eqb _ _ (c .if1 .left))
+
+pub owner-of-spec : {M : Type 1} → statement M
+owner-of-spec = tie.close (tie.spec returns returns-2)
