@@ -80,6 +80,32 @@ ssr_raw_code_answer ssr_raw_code(const uint32_t *words, size_t words_length,
                                  const uint8_t *text, size_t text_length,
                                  uint8_t *out, size_t out_length);
 
+/* The file's tree with its facts: 0 if both are well-formed, else
+ *   18  over 16,383 elements or 65,535 bytes
+ *   19  malformed
+ *   20  an element deeper than 128, the root being at 1
+ *   21  facts malformed, over 16,383, or one repeated
+ * in this order. The stack that it uses does not depend on the depth; it is below 600 KB.
+ */
+uint32_t ssr_check_file(const uint32_t *tree, size_t tree_length,
+                        const uint8_t *text, size_t text_length,
+                        const uint32_t *facts, size_t facts_length);
+
+/* A rule's tree with its facts: 0, or the refusal (1 to 13) of its list, or 18 to 21 as above. The code is the
+ * list's raw code without WHITESPACE tokens at its ends; another text is 19.
+ * With list_given 0 the side has no list: a template that was not given. Its list and text are not looked at, and
+ * a tree that is handed in all the same is 18 or 19.
+ * The tree is the pattern's where side is 0, else the template's. One without words is absent: 21 if it has facts.
+ */
+uint32_t ssr_check_rule_tree(uint32_t list_given,
+                             const uint32_t *list, size_t list_length,
+                             const uint8_t *list_text, size_t list_text_length,
+                             uint32_t side,
+                             const uint32_t *tree, size_t tree_length,
+                             const uint8_t *code, size_t code_length,
+                             const uint32_t *facts, size_t facts_length,
+                             const uint8_t *fact_text, size_t fact_text_length);
+
 #ifdef __cplusplus
 }
 #endif

@@ -15,7 +15,8 @@ use Rattle.sorting.specs.Sorted.{insert, sort, below, count, From, Rising}
 use Rattle.sorting.proofs.Laws.{insert-nil, insert-low, insert-high, sort-rising, count-sort, length-sort, below-after, high-after, low-before, count-none, count-same, count-other, count-at, count-place}
 use Rattle.facts.specs.Facts.{Fact, factsOf, factIndex, hasRepeated, hasGap}
 use Rattle.facts.specs.Keys.{keyNumber, keyOf, entriesFrom, entryKey, entryPlace, isLaterKey, isSteady, indexOf, foundIn, Indexed}
-use Rattle.facts.proofs.TestLaws.{same-or, low-or, both-ways, and-both, stopped, goes-on}
+use Rattle.words.proofs.TestLaws.{same-or, low-or, both-ways, and-both}
+use Rattle.facts.proofs.TestLaws.{stopped, goes-on}
 use Rattle.facts.proofs.FactLaws.{Ranged, ranged, length-facts}
 use Rattle.facts.proofs.KeyLaws.{place, place-found, place-first, place-within, keysOf, length-keys, index-place, repeated-keys, gap-keys}
 use Rattle.facts.proofs.SteadyLaws.{count-more, repeats-once, once-repeats, gaps-filled, filled-gaps, steadyKeys, steady-has, has-steady}

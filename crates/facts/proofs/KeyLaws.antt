@@ -12,7 +12,7 @@ use Rattle.sorting.specs.Sorted.{count}
 use Rattle.sorting.proofs.Laws.{count-same, count-other}
 use Rattle.facts.specs.Facts.{Fact, selector, isKey, factIndex, isKnown, hasRepeated, isLater, hasGap}
 use Rattle.facts.specs.Keys.{keyNumber, keyOf, isLaterKey}
-use Rattle.facts.proofs.TestLaws.{same-or, both-ways, and-both, never, ltb-suc}
+use Rattle.words.proofs.TestLaws.{same-or, both-ways, and-both, never, ltb-suc}
 use Rattle.facts.proofs.FactLaws.{InRange, Ranged}
 use Rattle.facts.proofs.SteadyLaws.{repeats, gaps}
 

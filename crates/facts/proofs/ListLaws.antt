@@ -17,7 +17,7 @@ use Rattle.syntax.proofs.Places.{node-at}
 use Rattle.facts.specs.declared.Owner.{Owner}
 use Rattle.facts.specs.Facts.{Fact, factsOf, areFactWords, allows, stands, lowKind, highKind, namesToken, hasValues, isFact, areFacts, hasRepeated, hasGap, isFactList}
 use Rattle.facts.specs.Keys.{AreLow, isSteady, indexOf, Indexed}
-use Rattle.facts.proofs.TestLaws.{low-or, and-both}
+use Rattle.words.proofs.TestLaws.{low-or, and-both}
 use Rattle.facts.proofs.FactLaws.{allFacts, length-facts, ranged}
 use Rattle.facts.proofs.IndexLaws.{steady-exactly, length-index}
 

@@ -11,7 +11,7 @@ use borrow.Author.Tests.{eqb-true, eqb-false, eq-eqb, ne-eqb, ltb-true, ltb-fals
 use Rattle.sorting.specs.Sorted.{count, From, Rising}
 use Rattle.sorting.proofs.Laws.{from-less, count-none, count-same, count-other}
 use Rattle.facts.specs.Keys.{isLaterKey}
-use Rattle.facts.proofs.TestLaws.{same-or, low-or, and-both, or-neither, or-second}
+use Rattle.words.proofs.TestLaws.{same-or, low-or, and-both, or-neither, or-second}
 
 -- ---- counts
 

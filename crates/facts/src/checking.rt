@@ -5,7 +5,7 @@ use syntax::accessors;
 use words::fields;
 ghost use mathlib.Core.Path.{_≡_};
 ghost use mathlib.Core.Bool.{true, _&&_};
-ghost use Prim.Native.Nat.{_<_, _≤_};
+ghost use Prim.Native.Nat.{_<_, _≤_, _/_};
 ghost use lib.ListN.{length};
 ghost use Rattle.syntax.specs.Trees.{tree};
 ghost use Rattle.syntax.specs.Checks.{WellFormed};
@@ -153,7 +153,7 @@ pub fn check_and_index(
     spare: &mut [u64],
 ) -> bool
     requires { ⌜ WellFormed (now words) ⌝ }
-    requires { ⌜ (16383 ≤ length (now index)) × (16383 ≤ length (now spare)) ⌝ }
+    requires { ⌜ (length (now facts) / 4 ≤ 16383 → (length (now facts) / 4 ≤ length (now index)) × (length (now facts) / 4 ≤ length (now spare))) ⌝ }
     ensures { λ r. ⌜ r ≡ isFactList owner (tree (now (words .entry))) bytes (now (facts .entry)) ⌝ }
     ensures { λ r. ⌜ (r ≡ true → Indexed (now (facts .entry)) (now (index .exit))) ⌝ }
 {
@@ -168,12 +168,34 @@ pub fn check_and_index(
     false
 }
 
-// The same, where the index is not wanted.
-pub fn check_facts(owner: Owner, words: &[u32], facts: &[u32], bytes: usize) -> bool
+// The same, where the index is not wanted, in arrays for every list.
+fn check_many(owner: Owner, words: &[u32], facts: &[u32], bytes: usize) -> bool
     requires { ⌜ WellFormed (now words) ⌝ }
     ensures { λ r. ⌜ r ≡ isFactList owner (tree (now (words .entry))) bytes (now (facts .entry)) ⌝ }
 {
     let mut index = [0u64; 16384];
     let mut spare = [0u64; 16384];
     check_and_index(owner, words, facts, bytes, &mut index, &mut spare)
+}
+
+// In arrays for a short list: clearing those for every list takes longer than most lists.
+fn check_few(owner: Owner, words: &[u32], facts: &[u32], bytes: usize) -> bool
+    requires { ⌜ WellFormed (now words) ⌝ }
+    requires { ⌜ length (now facts) / 4 ≤ 64 ⌝ }
+    ensures { λ r. ⌜ r ≡ isFactList owner (tree (now (words .entry))) bytes (now (facts .entry)) ⌝ }
+{
+    let mut index = [0u64; 64];
+    let mut spare = [0u64; 64];
+    check_and_index(owner, words, facts, bytes, &mut index, &mut spare)
+}
+
+// Whether words are the well-formed facts of a tree, with a fact text of some bytes.
+pub fn check_facts(owner: Owner, words: &[u32], facts: &[u32], bytes: usize) -> bool
+    requires { ⌜ WellFormed (now words) ⌝ }
+    ensures { λ r. ⌜ r ≡ isFactList owner (tree (now (words .entry))) bytes (now (facts .entry)) ⌝ }
+{
+    if facts.len() / 4 <= 64 {
+        return check_few(owner, words, facts, bytes);
+    }
+    check_many(owner, words, facts, bytes)
 }

@@ -10,6 +10,7 @@ use lib.ListN.{length, drop, length-append}
 use lib.Seq.{drop-drop}
 use lib.Dec.{eqb, leb}
 use borrow.Author.Tests.{eq-eqb, ne-eqb, eqb-false, leb-true, leb-false}
+use Rattle.words.proofs.TestLaws.{low-or}
 use Rattle.words.specs.Fields.{isToken, sizeOf}
 use Rattle.syntax.specs.declared.accessors.Standing.{Standing}
 use Rattle.syntax.specs.Parts.{span}
@@ -51,17 +52,13 @@ unfolding ancestors
 inside-node i n j k s e cs r w h rec true q = rw q (omega arith)
 inside-node i n j k s e cs r w h rec false q = let ne : j ≡ n → ⊥ = eqb-false j n q in rw q (below-long j (ancestors n cs) (ancestors n r) (rec (omega (arith, ne))))
 
-split : {A : Type 0} {B : Type 0} (m n : ℕ) → (m ≤ n → A) → (n < m → B) → (b : Bool) → leb m n ≡ b → B ⊎ A
-split m n f g true b = inr (f (leb-true _ _ b))
-split m n f g false b = inl (g (leb-false _ _ b))
-
 inside : (c : Elems) (i n : ℕ) → Numbered i c → i ≤ n → n < i + size c → 0 < length (ancestors n c)
 unfolding size
 inside none i n w h k = absurd (omega arith)
 inside (token j kd s e r) i n w h k = inside-token i n j kd s e r (w .0) h (λ a. inside r (i + 1) n (w .1) a (omega arith)) (eqb j n) refl
 inside (node j kd s e cs r) i n w h k =
     inside-node i n j kd s e cs r (w .0) h
-    (λ a. split (i + (1 + size cs)) n (λ far. inside r (i + (1 + size cs)) n (w .2) far (omega arith)) (λ near. inside cs (i + 1) n (w .1) a (omega arith)) (leb (i + (1 + size cs)) n) refl)
+    (λ a. low-or n (i + (1 + size cs)) (λ near. inl (inside cs (i + 1) n (w .1) a (omega arith))) (λ far. inr (inside r (i + (1 + size cs)) n (w .2) far (omega arith))))
     (eqb j n) refl
 
 -- the last of a list, or a number where it is empty

@@ -11,6 +11,7 @@ use lib.ListN.{length, take, drop, length-append, length-take, length-drop, take
 use lib.Seq.{take-append-le}
 use lib.Dec.{eqb, leb, ltb}
 use borrow.Author.Tests.{eqb-true, leb-true, ltb-true, eq-eqb, le-leb}
+use Rattle.words.proofs.TestLaws.{and-both, and-of}
 use Rattle.words.specs.Fields.{kindAt, isNode, isToken, syntaxKind, sizeOf, startOf, endOf}
 use Rattle.syntax.specs.Parts.{span, childWords, restWords}
 use Rattle.syntax.specs.Trees.{Elems, none, token, node, size, Numbered, words, wordOf, elementWord, elems, isTokenKind, isNodeKind, tiles, formed}
@@ -18,15 +19,6 @@ use Rattle.syntax.specs.Rows.{inRow, isRanged, isTokenPart, isNodeHead, 
 use Rattle.syntax.proofs.PartLaws.{span-pos, span-token, span-node, rest-shorter, children-shorter}
 use Rattle.syntax.proofs.TreeLaws.{elems-end, elems-token, elems-node}
 use Rattle.syntax.proofs.RowLaws.{row-end, row-next, every-next, element-token, element-node}
-
--- a test of two parts
-pub both : (a b : Bool) → (a && b) ≡ true → (a ≡ true) × (b ≡ true)
-both true true h = (refl, refl)
-both true false h = absurd (false≢true h)
-both false b h = absurd (false≢true h)
-
-pub and : {a b : Bool} → a ≡ true → b ≡ true → (a && b) ≡ true
-and p q = rw (p, q)
 
 -- a test, and what holds then
 taken : (a b : Bool) → cond a b false ≡ true → (a ≡ true) × (b ≡ true)
@@ -57,12 +49,12 @@ every-drop zero (x ∷ a) b h e = absurd (omega arith)
 every-drop (suc k) [] b h e = absurd (omega arith)
 every-drop (suc k) (x ∷ []) b h e = absurd (omega arith)
 every-drop (suc k) (x ∷ (y ∷ [])) b h e = absurd (omega arith)
-every-drop (suc k) (x ∷ (y ∷ (z ∷ a))) b h e = every-drop k a b (omega arith) (both (isElement (x ∷ y ∷ z ∷ a ++ b)) (every (a ++ b)) (sym (every-next (x ∷ y ∷ z ∷ a ++ b) (omega arith)) ∙ e) .1)
+every-drop (suc k) (x ∷ (y ∷ (z ∷ a))) b h e = every-drop k a b (omega arith) (and-both (isElement (x ∷ y ∷ z ∷ a ++ b)) (every (a ++ b)) (sym (every-next (x ∷ y ∷ z ∷ a ++ b) (omega arith)) ∙ e) .1)
 
 -- what a good element's words say
 ranged : (l : List ℕ) → isElement l ≡ true → isRanged l ≡ true
 unfolding isElement
-ranged l h = both (isRanged l) _ h .0
+ranged l h = and-both (isRanged l) _ h .0
 
 record TokenSays (l : List ℕ) : Type 0 where
   starts : kindAt l 1 ≡ 3
@@ -73,9 +65,9 @@ record TokenSays (l : List ℕ) : Type 0 where
 
 token-says : (l : List ℕ) → isElement l ≡ true → isToken l ≡ true → TokenSays l
 token-says l h t =
-    let g = both (eqb (kindAt l 1) 3) (eqb (kindAt l 2) 4) (ranged l h) in
-    let a = both (eqb (sizeOf l) 1 && isTokenKind (syntaxKind l)) (ltb (startOf l) (endOf l)) (sym (element-token l (ranged l h) t) ∙ h) in
-    let b = both (eqb (sizeOf l) 1) (isTokenKind (syntaxKind l)) (a .0) in
+    let g = and-both (eqb (kindAt l 1) 3) (eqb (kindAt l 2) 4) (ranged l h) in
+    let a = and-both (eqb (sizeOf l) 1 && isTokenKind (syntaxKind l)) (ltb (startOf l) (endOf l)) (sym (element-token l (ranged l h) t) ∙ h) in
+    let b = and-both (eqb (sizeOf l) 1) (isTokenKind (syntaxKind l)) (a .0) in
     record { starts = eqb-true _ _ (g .0); ends = eqb-true _ _ (g .1); one = eqb-true _ _ (b .0); kind = b .1; full = a .1 }
 
 record NodeSays (l : List ℕ) : Type 0 where
@@ -89,11 +81,11 @@ record NodeSays (l : List ℕ) : Type 0 where
 
 node-says : (l : List ℕ) → isElement l ≡ true → isToken l ≡ false → NodeSays l
 node-says l h t =
-    let g = both (eqb (kindAt l 1) 3) (eqb (kindAt l 2) 4) (ranged l h) in
-    let a = both (isNodeHead l) (inRow (childWords l) (startOf l) (endOf l)) (sym (element-node l (ranged l h) t) ∙ h) in
-    let b = both (isNode l && leb 1 (sizeOf l) && isNodeKind (syntaxKind l)) (leb (startOf l) (endOf l)) (a .0) in
-    let d = both (isNode l && leb 1 (sizeOf l)) (isNodeKind (syntaxKind l)) (b .0) in
-    let e = both (isNode l) (leb 1 (sizeOf l)) (d .0) in
+    let g = and-both (eqb (kindAt l 1) 3) (eqb (kindAt l 2) 4) (ranged l h) in
+    let a = and-both (isNodeHead l) (inRow (childWords l) (startOf l) (endOf l)) (sym (element-node l (ranged l h) t) ∙ h) in
+    let b = and-both (isNode l && leb 1 (sizeOf l) && isNodeKind (syntaxKind l)) (leb (startOf l) (endOf l)) (a .0) in
+    let d = and-both (isNode l && leb 1 (sizeOf l)) (isNodeKind (syntaxKind l)) (b .0) in
+    let e = and-both (isNode l) (leb 1 (sizeOf l)) (d .0) in
     record { starts = eqb-true _ _ (g .0); ends = eqb-true _ _ (g .1); is = e .0; sized = leb-true _ _ (e .1); kind = d .1; order = b .1; row = a .1 }
 
 -- what a row's first element says
@@ -107,8 +99,8 @@ record First (l more : List ℕ) (from to : ℕ) : Type 0 where
 first : (l more : List ℕ) (from to : ℕ) → 0 < length l → inRow l from to ≡ true → every (l ++ more) ≡ true → First l more from to
 first l more from to p r e =
     let t = taken _ _ (sym (row-next l from to p) ∙ r) in
-    let u = both (leb (span l * 3) (length l)) (eqb (startOf l) from) (t .0) in
-    let w = both (isElement (l ++ more)) (every (drop 3 (l ++ more))) (sym (every-next (l ++ more) (omega (arith, length-append l more))) ∙ e) in
+    let u = and-both (leb (span l * 3) (length l)) (eqb (startOf l) from) (t .0) in
+    let w = and-both (isElement (l ++ more)) (every (drop 3 (l ++ more))) (sym (every-next (l ++ more) (omega (arith, length-append l more))) ∙ e) in
     record { fits = leb-true _ _ (u .0); start = eqb-true _ _ (u .1); row = t .1; element = w .0; others = w .1 }
 
 -- a token's words, and a node's
@@ -131,8 +123,8 @@ build-token i from to w s e l more f t b =
     let q : elems i p ≡ token i (syntaxKind p) (startOf p) (endOf p) (elems (i + 1) l) = elems-token i p (omega arith) t ∙ rw (span-token p t) in
     record {
       are = rw (q, token-word w t (k .one), range-word 3 s (k .starts), range-word 4 e (k .ends), b .are);
-      inside = rw q (and (eq-eqb _ _ (f .start)) (b .inside));
-      good = rw q (and (and (k .kind) (k .full)) (b .good));
+      inside = rw q (and-of (eq-eqb _ _ (f .start)) (b .inside));
+      good = rw q (and-of (and-of (k .kind) (k .full)) (b .good));
       numbered = rw q (refl, b .numbered);
     }
 
@@ -164,8 +156,8 @@ module _ (w s e : ℕ) (l : List ℕ) (t : isToken (w ∷ s ∷ e ∷ l) ≡ fal
       let n : sizeOf p ≡ 1 + size cs = omega (arith, length-words cs, ap length (b .are), children-length) in
       record {
         are = rw (q, node-word w (1 + size cs) (k .is) n, range-word 3 s (k .starts), range-word 4 e (k .ends), b .are, d .are, parts-are);
-        inside = rw q (and (eq-eqb _ _ st) (d .inside));
-        good = rw q (and (and (and (and (k .kind) (k .order)) (b .inside)) (b .good)) (d .good));
+        inside = rw q (and-of (eq-eqb _ _ st) (d .inside));
+        good = rw q (and-of (and-of (and-of (and-of (k .kind) (k .order)) (b .inside)) (b .good)) (d .good));
         numbered = rw q (refl, b .numbered, subst (λ (x : ℕ). Numbered (i + x) (elems (i + span p) (restWords p))) (span-node p t sized ∙ n) (d .numbered));
       }
 

@@ -11,16 +11,13 @@ use Rattle.errors.specs.declared.Outcome.the-variants.{Accepted, Refused}
 use Rattle.errors.specs.declared.Refusal.the-variants.{TreeTooLarge, MalformedTree, TreeTooDeep}
 use Rattle.errors.specs.Refusals.{firstOf}
 use Rattle.errors.proofs.Laws.{refused-not}
+use Rattle.words.proofs.TestLaws.{or-neither}
 use Rattle.syntax.specs.Trees.{tree, tiles, isTree, depth}
 use Rattle.syntax.specs.Checks.{isTooLarge, treeOutcome, WellFormed}
 
-neither : (a b : Bool) → (a || b) ≡ false → (a ≡ false) × (b ≡ false)
-neither true b h = absurd (false≢true (sym h))
-neither false b h = (refl, h)
-
 -- within the limits
 pub not-large : (n : ℕ) (l : List ℕ) → isTooLarge n l ≡ false → (length l / 3 ≤ 16383) × (n ≤ 65535)
-not-large n l h = let a = neither (ltb 16383 (length l / 3)) (ltb 65535 n) h in (ltb-false _ _ (a .0), ltb-false _ _ (a .1))
+not-large n l h = let a = or-neither (ltb 16383 (length l / 3)) (ltb 65535 n) h in (ltb-false _ _ (a .0), ltb-false _ _ (a .1))
 
 pub within-limits : (n : ℕ) (l : List ℕ) → length l / 3 ≤ 16383 → n ≤ 65535 → isTooLarge n l ≡ false
 within-limits n l h k = rw (le-ltb 16383 (length l / 3) h, le-ltb 65535 n k)

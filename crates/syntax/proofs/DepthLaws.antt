@@ -3,15 +3,17 @@
 use mathlib.Core.Path.{_≡_, refl, sym, ap, _∙_}
 use mathlib.Core.Bool.{Bool, true, false, cond, _&&_}
 use mathlib.Core.List.{List, []}
-use Prim.Native.Nat.{ℕ, zero, suc, _+_, _-_, _*_, _≤_, _<_}
+use Prim.Native.Nat.{ℕ, zero, suc, _+_, _-_, _*_, _/_, _≤_, _<_}
 use native.Mathlib.Omega.{arith}
-use lib.ListN.{length, drop, length-take}
+use native.Mathlib.Nat.{le-refl}
+use lib.ListN.{length, drop, length-take, length-drop}
 use lib.Dec.{leb}
 use borrow.Author.Tests.{leb-true, leb-false, le-leb, lt-leb}
+use Rattle.words.proofs.TestLaws.{low-or}
 use Rattle.words.specs.Fields.{isToken}
 use Rattle.syntax.specs.Parts.{span, childWords, restWords}
 use Rattle.syntax.specs.Trees.{Elems, none, token, node, deeper, depth, elems}
-use Rattle.syntax.proofs.PartLaws.{span-token, no-children}
+use Rattle.syntax.proofs.PartLaws.{span-pos, span-token, no-children, rest-shorter, children-shorter}
 use Rattle.syntax.proofs.TreeLaws.{elems-end, elems-token, elems-node}
 
 depth-end : (i : ℕ) (l : List ℕ) → length l < 3 → depth (elems i l) ≡ 0
@@ -59,3 +61,29 @@ pub shallow-next : (i : ℕ) (l : List ℕ) (n : ℕ) → 3 ≤ length l → 1 �
     → leb (depth (elems i l)) n ≡ (leb (depth (elems (i + 1) (childWords l))) (n - 1) && leb (depth (elems (i + span l) (restWords l))) n)
 shallow-next i l n h k =
     rw (depth-next i l h (isToken l) refl, leb-deeper (1 + depth (elems (i + 1) (childWords l))) (depth (elems (i + span l) (restWords l))) n _ refl, leb-suc (depth (elems (i + 1) (childWords l))) n k)
+
+deeper-le : (a b n : ℕ) → a ≤ n → b ≤ n → (t : Bool) → leb a b ≡ t → deeper a b ≤ n
+deeper-le a b n h k true e = rw e k
+deeper-le a b n h k false e = rw e h
+
+-- no element is deeper than there are elements
+few-next : (m i : ℕ) (l : List ℕ) → ((j : ℕ) (k : List ℕ) → length k ≤ m → depth (elems j k) ≤ length k / 3) → length l ≤ suc m → 3 ≤ length l → depth (elems i l) ≤ length l / 3
+few-next m i l few h t =
+    let r = rest-shorter l (omega arith) in
+    let s = children-shorter l (omega arith) in
+    let lc : length (childWords l) ≤ length l - 3 = simp (length-take, length-drop) (omega arith) in
+    let fc = few (i + 1) (childWords l) (omega arith) in
+    let fr = few (i + span l) (restWords l) (omega arith) in
+    rw (depth-next i l t (isToken l) refl) (deeper-le (1 + depth (elems (i + 1) (childWords l))) (depth (elems (i + span l) (restWords l))) (length l / 3) (omega arith) (omega arith) _ refl)
+
+depth-few : (m i : ℕ) (l : List ℕ) → length l ≤ m → depth (elems i l) ≤ length l / 3
+depth-few zero i l h = rw (depth-end i l (omega arith)) (omega arith)
+depth-few (suc m) i l h = low-or (length l) 3 (λ short. rw (depth-end i l short) (omega arith)) (λ t. few-next m i l (λ j k. depth-few m j k) h t)
+
+-- an element with no more than n elements is not looked into
+pub shallow-few : (i : ℕ) (l : List ℕ) (n : ℕ) → 3 ≤ length l → span l ≤ n → leb (depth (elems i l)) n ≡ leb (depth (elems (i + span l) (restWords l))) n
+shallow-few i l n h k =
+    let p = span-pos l in
+    let lc : length (childWords l) ≤ span l * 3 - 3 = simp length-take (omega arith) in
+    let d = depth-few (length (childWords l)) (i + 1) (childWords l) (le-refl _) in
+    shallow-next i l n h (omega arith) ∙ rw (le-leb (depth (elems (i + 1) (childWords l))) (n - 1) (omega arith))

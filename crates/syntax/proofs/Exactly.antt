@@ -10,6 +10,7 @@ use native.Mathlib.Nat.{le-refl}
 use lib.ListN.{length, drop, drop-of-length-le}
 use lib.Dec.{eqb, leb}
 use borrow.Author.Tests.{eqb-true, eq-eqb, ne-eqb, le-leb}
+use Rattle.words.proofs.TestLaws.{and-both, and-of, both-ways}
 use Rattle.words.specs.Fields.{kindAt, isNode, isToken, syntaxKind, sizeOf, startOf, endOf}
 use Rattle.words.specs.Texts.{sameText}
 use Rattle.words.proofs.TextLaws.{same-equal, equal-same}
@@ -19,7 +20,7 @@ use Rattle.syntax.specs.Rows.{inRow, isElement, every, isRoot}
 use Rattle.syntax.proofs.PartLaws.{span-node}
 use Rattle.syntax.proofs.TreeLaws.{elems-end, elems-node}
 use Rattle.syntax.proofs.RowLaws.{row-end, row-next, every-end}
-use Rattle.syntax.proofs.Bridge.{both, and, length-words, Built, build}
+use Rattle.syntax.proofs.Bridge.{length-words, Built, build}
 use Rattle.syntax.proofs.Words.{NodeGood, node-good, node-is, node-size, start-is, end-is, every-of}
 
 record RootSays (n : ℕ) (l : List ℕ) : Type 0 where
@@ -31,9 +32,9 @@ record RootSays (n : ℕ) (l : List ℕ) : Type 0 where
 root-says : (n : ℕ) (l : List ℕ) → isRoot n l ≡ true → RootSays n l
 unfolding isRoot
 root-says n l h =
-    let a = both (isNode l && eqb (sizeOf l * 3) (length l) && eqb (startOf l) 0) (eqb (endOf l) n) h in
-    let b = both (isNode l && eqb (sizeOf l * 3) (length l)) (eqb (startOf l) 0) (a .0) in
-    let d = both (isNode l) (eqb (sizeOf l * 3) (length l)) (b .0) in
+    let a = and-both (isNode l && eqb (sizeOf l * 3) (length l) && eqb (startOf l) 0) (eqb (endOf l) n) h in
+    let b = and-both (isNode l && eqb (sizeOf l * 3) (length l)) (eqb (startOf l) 0) (a .0) in
+    let d = and-both (isNode l) (eqb (sizeOf l * 3) (length l)) (b .0) in
     record { is = d .0; all = eqb-true _ _ (d .1); start = eqb-true _ _ (b .1); end = eqb-true _ _ (a .1) }
 
 node-there : (l : List ℕ) → isNode l ≡ true → 0 < length l
@@ -64,8 +65,8 @@ sound n l h e =
     let q : tree l ≡ node 0 (syntaxKind l) (startOf l) (endOf l) (elems (0 + 1) (childWords l)) none =
     elems-node 0 l (omega (arith, r .all)) t ∙ rw (dr, elems-end (0 + span l) [] (omega arith)) in
     let same : sameText (words (tree l)) l ≡ true = rw (b .are) (equal-same l) in
-    let cov : covers n (tree l) ≡ true = rw q (and (eq-eqb _ _ (r .start)) (eq-eqb _ _ (r .end))) in
-    and (and same cov) (b .good)
+    let cov : covers n (tree l) ≡ true = rw q (and-of (eq-eqb _ _ (r .start)) (eq-eqb _ _ (r .end))) in
+    and-of (and-of same cov) (b .good)
 
 pub complete-of : (n : ℕ) (c : Elems) → n ≤ 65535 → size c ≤ 16383 → covers n c ≡ true → formed tiles c ≡ true → (isRoot n (words c) && every (words c)) ≡ true
 unfolding isRoot words tiles size
@@ -74,11 +75,11 @@ complete-of n (token i k s e r) small few v g = absurd (false≢true v)
 complete-of n (node i k s e cs (token j k′ s′ e′ r)) small few v g = absurd (false≢true v)
 complete-of n (node i k s e cs (node j k′ s′ e′ cs′ r)) small few v g = absurd (false≢true v)
 complete-of n (node i k s e cs none) small few v g =
-    let u = both (eqb s 0) (eqb e n) v in
+    let u = and-both (eqb s 0) (eqb e n) v in
     let s0 : s ≡ 0 = eqb-true _ _ (u .0) in
     let en : e ≡ n = eqb-true _ _ (u .1) in
     let c = node i k s e cs none in
-    let t : tiles 0 n c ≡ true = and (u .0) (u .1) in
+    let t : tiles 0 n c ≡ true = and-of (u .0) (u .1) in
     let h = node-good i k s e 0 n cs none t g in
     let w = elementWord 1 k (1 + size cs) in
     let l = words cs ++ [] in
@@ -86,28 +87,22 @@ complete-of n (node i k s e cs none) small few v g =
     let lw = length-words c in
     let whole : sizeOf (words c) * 3 ≡ length (words c) = omega (arith, z, lw) in
     let all : every (words c ++ []) ≡ true = every-of c 0 n [] t g (omega arith) (omega arith) ∙ every-end [] refl in
-    and (and (and (and (node-is k (1 + size cs) s e l (h .high) (omega arith)) (eq-eqb _ _ whole)) (eq-eqb _ _ (start-is w s e l (omega arith) (omega arith) ∙ s0))) (eq-eqb _ _ (end-is w s e l (omega arith) (omega arith) ∙ en))) (rw (append-nil (words c)) at all)
+    and-of (and-of (and-of (and-of (node-is k (1 + size cs) s e l (h .high) (omega arith)) (eq-eqb _ _ whole)) (eq-eqb _ _ (start-is w s e l (omega arith) (omega arith) ∙ s0))) (eq-eqb _ _ (end-is w s e l (omega arith) (omega arith) ∙ en))) (rw (append-nil (words c)) at all)
 
 complete : (n : ℕ) (l : List ℕ) → n ≤ 65535 → length l / 3 ≤ 16383 → isTree tiles n l ≡ true → (isRoot n l && every l) ≡ true
 unfolding isTree
 complete n l small few h =
-    let a = both (sameText (words (tree l)) l && covers n (tree l)) (formed tiles (tree l)) h in
-    let b = both (sameText (words (tree l)) l) (covers n (tree l)) (a .0) in
+    let a = and-both (sameText (words (tree l)) l && covers n (tree l)) (formed tiles (tree l)) h in
+    let b = and-both (sameText (words (tree l)) l) (covers n (tree l)) (a .0) in
     let q : words (tree l) ≡ l = same-equal _ _ (b .0) in
     let lw : size (tree l) * 3 ≡ length l = sym (length-words (tree l)) ∙ ap length q in
     subst (λ (x : List ℕ). (isRoot n x && every x) ≡ true) q (complete-of n (tree l) small (omega (arith, lw)) (b .1) (a .1))
 
 -- THE BRIDGE
 pub tree-exactly : (n : ℕ) (l : List ℕ) → n ≤ 65535 → length l / 3 ≤ 16383 → isTree tiles n l ≡ (isRoot n l && every l)
-tree-exactly n l small few = go (isTree tiles n l) refl (isRoot n l) refl (every l) refl
-  where
-    go : (a : Bool) → isTree tiles n l ≡ a → (b : Bool) → isRoot n l ≡ b → (d : Bool) → every l ≡ d → a ≡ (b && d)
-    go a e true f true g = sym e ∙ sound n l f g
-    go false e true f false g = refl
-    go false e false f d g = refl
-    go true e true f false g = absurd (false≢true (sym (ap (λ (x : Bool). x && false) f) ∙ sym (ap (λ (x : Bool). isRoot n l && x) g) ∙ complete n l small few e))
-    go true e false f d g = absurd (false≢true (sym (ap (λ (x : Bool). x && every l) f) ∙ complete n l small few e))
+tree-exactly n l small few =
+    both-ways (isTree tiles n l) (isRoot n l && every l) (complete n l small few) (λ h. let r = and-both (isRoot n l) (every l) h in sound n l (r .0) (r .1))
 
 -- what an accepted tree is
 pub tree-built : (n : ℕ) (l : List ℕ) → n ≤ 65535 → length l / 3 ≤ 16383 → isTree tiles n l ≡ true → Built 0 0 n l
-tree-built n l small few h = let r = both (isRoot n l) (every l) (complete n l small few h) in root-built n l (r .0) (r .1)
+tree-built n l small few h = let r = and-both (isRoot n l) (every l) (complete n l small few h) in root-built n l (r .0) (r .1)

@@ -11,6 +11,7 @@ use lib.Seq.{take-at, drop-at}
 use lib.Dec.{eqb, leb}
 use borrow.Author.Tests.{eqb-true, le-leb, leb-true}
 use Rattle.errors.specs.declared.Outcome.the-variants.{Accepted}
+use Rattle.words.proofs.TestLaws.{and-both}
 use Rattle.words.specs.Fields.{syntaxKind, startOf, endOf}
 use Rattle.words.specs.Texts.{sameText}
 use Rattle.words.proofs.TextLaws.{same-equal}
@@ -20,7 +21,7 @@ use Rattle.syntax.specs.Rows.{isRoot, every}
 use Rattle.syntax.specs.Checks.{isTooLarge, treeOutcome, TreeOf}
 use Rattle.syntax.proofs.PartLaws.{span-token, span-node}
 use Rattle.syntax.proofs.TreeLaws.{elems-end, elems-token, elems-node}
-use Rattle.syntax.proofs.Bridge.{both, and, length-words, Built}
+use Rattle.syntax.proofs.Bridge.{length-words, Built}
 use Rattle.syntax.proofs.Words.{token-good, node-good, tiles-order, token-is, token-kind, node-not, node-kind, node-size, start-is, end-is}
 use Rattle.syntax.proofs.Exactly.{complete-of, tree-exactly, tree-built}
 use Rattle.syntax.proofs.Places.{Good, good-rest-token, good-rest-node, good-children}
@@ -67,8 +68,8 @@ unfolding isTree
 one-tree n l h =
     let p = passed true n l h in
     let q = not-large n l (p .large) in
-    let a = both (sameText (words (tree l)) l && covers n (tree l)) (formed tiles (tree l)) (p .is) in
-    let b = both (sameText (words (tree l)) l) (covers n (tree l)) (a .0) in
+    let a = and-both (sameText (words (tree l)) l && covers n (tree l)) (formed tiles (tree l)) (p .is) in
+    let b = and-both (sameText (words (tree l)) l) (covers n (tree l)) (a .0) in
     record {
       small = q .1;
       few = q .0;

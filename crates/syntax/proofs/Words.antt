@@ -9,13 +9,14 @@ use lib.ListN.{length, take, drop, length-append}
 use lib.Seq.{take-at, drop-at}
 use lib.Dec.{eqb, leb, ltb}
 use borrow.Author.Tests.{eqb-true, leb-true, ltb-true, eq-eqb, ne-eqb, le-leb, lt-ltb}
+use Rattle.words.proofs.TestLaws.{and-both, and-of}
 use Rattle.words.specs.Fields.{kindAt, isNode, isToken, syntaxKind, sizeOf, startOf, endOf}
 use Rattle.syntax.specs.Parts.{span, childWords, restWords}
 use Rattle.syntax.specs.Trees.{Elems, none, token, node, size, words, wordOf, elementWord, isTokenKind, isNodeKind, tiles, formed}
 use Rattle.syntax.specs.Rows.{inRow, isRanged, isTokenPart, isNodeHead, isNodePart, isElement, every}
 use Rattle.syntax.proofs.PartLaws.{span-token, span-node}
 use Rattle.syntax.proofs.RowLaws.{row-end, row-next, every-next, element-token, element-node}
-use Rattle.syntax.proofs.Bridge.{both, and, length-words}
+use Rattle.syntax.proofs.Bridge.{length-words}
 
 -- what well-formedness says of a first element
 pub record TokenGood (k s e from to : ℕ) (r : Elems) : Type 0 where
@@ -29,10 +30,10 @@ pub record TokenGood (k s e from to : ℕ) (r : Elems) : Type 0 where
 pub token-good : (i k s e from to : ℕ) (r : Elems) → tiles from to (token i k s e r) ≡ true → formed tiles (token i k s e r) ≡ true → TokenGood k s e from to r
 unfolding tiles formed
 token-good i k s e from to r t g =
-    let a = both (eqb s from) (tiles e to r) t in
-    let b = both (isTokenKind k && ltb s e) (formed tiles r) g in
-    let d = both (isTokenKind k) (ltb s e) (b .0) in
-    let f = both (leb 1 k) (leb k 1023) (d .0) in
+    let a = and-both (eqb s from) (tiles e to r) t in
+    let b = and-both (isTokenKind k && ltb s e) (formed tiles r) g in
+    let d = and-both (isTokenKind k) (ltb s e) (b .0) in
+    let f = and-both (leb 1 k) (leb k 1023) (d .0) in
     record { low = leb-true _ _ (f .0); high = leb-true _ _ (f .1); full = ltb-true _ _ (d .1); start = eqb-true _ _ (a .0); inside = a .1; good = b .1 }
 
 pub record NodeGood (k s e from to : ℕ) (cs r : Elems) : Type 0 where
@@ -48,12 +49,12 @@ pub record NodeGood (k s e from to : ℕ) (cs r : Elems) : Type 0 where
 pub node-good : (i k s e from to : ℕ) (cs r : Elems) → tiles from to (node i k s e cs r) ≡ true → formed tiles (node i k s e cs r) ≡ true → NodeGood k s e from to cs r
 unfolding tiles formed
 node-good i k s e from to cs r t g =
-    let a = both (eqb s from) (tiles e to r) t in
-    let b = both (isNodeKind k && leb s e && tiles s e cs && formed tiles cs) (formed tiles r) g in
-    let d = both (isNodeKind k && leb s e && tiles s e cs) (formed tiles cs) (b .0) in
-    let f = both (isNodeKind k && leb s e) (tiles s e cs) (d .0) in
-    let h = both (isNodeKind k) (leb s e) (f .0) in
-    let j = both (leb 1 k) (leb k 4095) (h .0) in
+    let a = and-both (eqb s from) (tiles e to r) t in
+    let b = and-both (isNodeKind k && leb s e && tiles s e cs && formed tiles cs) (formed tiles r) g in
+    let d = and-both (isNodeKind k && leb s e && tiles s e cs) (formed tiles cs) (b .0) in
+    let f = and-both (isNodeKind k && leb s e) (tiles s e cs) (d .0) in
+    let h = and-both (isNodeKind k) (leb s e) (f .0) in
+    let j = and-both (leb 1 k) (leb k 4095) (h .0) in
     record { low = leb-true _ _ (j .0); high = leb-true _ _ (j .1); order = leb-true _ _ (h .1); start = eqb-true _ _ (a .0); below = f .1; inside = a .1; children = d .1; good = b .1 }
 
 -- siblings that tile a range end no earlier than they start
@@ -94,7 +95,7 @@ module _ (h s e : ℕ) (l : List ℕ) (sh : s < 268435456) (eh : e < 268435456) 
   ranged-is =
       let a : wordOf 3 s / 268435456 ≡ 3 = omega arith in
       let b : wordOf 4 e / 268435456 ≡ 4 = omega arith in
-      and (eq-eqb _ _ a) (eq-eqb _ _ b)
+      and-of (eq-eqb _ _ a) (eq-eqb _ _ b)
 
 module _ (k n s e : ℕ) (l : List ℕ) (kh : k ≤ 4095) (nh : n < 65536) where
   pub node-not : isToken (elementWord 1 k n ∷ wordOf 3 s ∷ wordOf 4 e ∷ l) ≡ false

@@ -131,20 +131,26 @@ fn is_tree(words: &[u32], bytes: usize) -> bool
     false
 }
 
-// Whether no element of a part is deeper than a number of levels. The stack grows with the levels alone.
+// Whether no element of a part is deeper than a number of levels. An element with no more below it than that is not looked into, and the
+// stack grows with the levels alone.
 fn is_shallow(part: &[u32], levels: usize) -> bool
     ensures { λ r. ⌜ ((i : ℕ) → r ≡ leb (depth (elems i (now (part .entry)))) levels) ⌝ }
 {
     let mut c = part;
     while 3 <= c.len() {
-        if levels == 0 {
-            return false;
-        }
-        if is_shallow(parts::children(c), levels - 1) {
+        if levels < parts::span_of(c) {
+            if levels == 0 {
+                return false;
+            }
+            if is_shallow(parts::children(c), levels - 1) {
+                let d = parts::rest(c);
+                c = d;
+            } else {
+                return false;
+            }
+        } else {
             let d = parts::rest(c);
             c = d;
-        } else {
-            return false;
         }
     }
     true

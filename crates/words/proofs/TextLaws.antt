@@ -10,6 +10,7 @@ use lib.Dec.{eqb, leb, ltb}
 use lib.ListN.{length, getD, take, drop, length-drop, drop-of-length-le}
 use lib.Seq.{drop-cons, drop-drop, take-all, take-add}
 use borrow.Author.Tests.{eqb-true, eqb-false, eq-eqb, ne-eqb, le-leb, lt-leb, ltb-true, ltb-false}
+use Rattle.words.proofs.TestLaws.{and-both}
 use Rattle.words.specs.Texts.{part, sameText, hasPrefix}
 
 -- ---- a part
@@ -69,10 +70,6 @@ pub prefix-short : (p t : List ℕ) → length t < length p → hasPrefix p t �
 prefix-short p t h = rw (take-all (length p) t (omega arith)) (same-lengths t p (λ e. omega arith))
 
 -- ---- two texts are the same exactly if they are equal
-
-and-both : (a b : Bool) → (a && b) ≡ true → (a ≡ true) × (b ≡ true)
-and-both true b h = (refl, h)
-and-both false b h = absurd (let z : _≡_ {A = ℕ} 0 1 = cc in omega arith)
 
 pub same-equal : (x y : List ℕ) → sameText x y ≡ true → x ≡ y
 unfolding sameText

@@ -5,7 +5,7 @@ use Rattle.tokens.proofs.is_token_word.Statement.{statement}
 use Rattle.tokens.proofs.is_token_word.Tie as tie
 
 returns : tie.Need-returns
-returns c = cc
+returns c = rw (c .token-length .ensures, c .before .kind .ensures, c .before .before .token-kind .ensures)
 
 pub is-token-word-spec : {M : Type 1} → statement M
 is-token-word-spec =

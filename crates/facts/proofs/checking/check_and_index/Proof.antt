@@ -21,15 +21,24 @@ returns c =
     let c₅ = c .before .before .before .before .before in
     let a = c₅ .args in (sym (list-many (a .owner) (now (a .words)) (a .bytes) (now (a .facts)) (omega arith)), λ e. absurd (true≢false (sym e)))
 
+slice-relend-prefix-make-index : tie.Need-slice-relend-prefix-make-index
+slice-relend-prefix-make-index c = c .before .before .before .before .before .before .before .pre .1 (omega (arith, c .before .before .if1 .left)) .0
+
+slice-relend-prefix-make-index-2 : tie.Need-slice-relend-prefix-make-index-2
+slice-relend-prefix-make-index-2 c = c .before .before .before .before .before .before .before .before .pre .1 (omega (arith, c .before .before .before .if1 .left)) .1
+
+slice-reshare-prefix-is-steady : tie.Need-slice-reshare-prefix-is-steady
+slice-reshare-prefix-is-steady c = let fits = c .before .before .before .before .before .before .before .before .before .before .before .before .before .before .pre .1 (omega (arith, c .before .before .before .before .before .before .before .before .before .if1 .left)) .0 in omega (arith, fits)
+
 slice-aggregate-make-index : tie.Need-slice-aggregate-make-index
 slice-aggregate-make-index c =
     let c₃ = c .before .before .before in let c₈ = c₃ .before .before .before .before .before in
-    let a = c₈ .args in sym (length-take-le (length (now (a .facts)) / 4) (now (a .index)) (omega (arith, c₈ .pre .1 .0, c₃ .if1 .left)))
+    let a = c₈ .args in sym (length-take-le (length (now (a .facts)) / 4) (now (a .index)) (c₈ .pre .1 (omega (arith, c₃ .if1 .left)) .0))
 
 slice-aggregate-make-index-2 : tie.Need-slice-aggregate-make-index-2
 slice-aggregate-make-index-2 c =
     let c₄ = c .before .before .before .before in let c₉ = c₄ .before .before .before .before .before in
-    let a = c₉ .args in sym (length-take-le (length (now (a .facts)) / 4) (now (a .spare)) (omega (arith, c₉ .pre .1 .1, c₄ .if1 .left)))
+    let a = c₉ .args in sym (length-take-le (length (now (a .facts)) / 4) (now (a .spare)) (c₉ .pre .1 (omega (arith, c₄ .if1 .left)) .1))
 
 make-index-requires : tie.Need-make-index-requires
 make-index-requires c κs =
@@ -37,8 +46,8 @@ make-index-requires c κs =
     let c₉ = c₄ .before .before .before .before .before in
     let a = c₉ .args in let l = now (a .facts) in let few : length l / 4 ≤ 16383 = omega (arith, c₄ .if1 .left) in let t : allFacts (a .owner) (tree
     (now (a .words))) (a .bytes) l ≡ true = rw (c₃ .are-facts .ensures) at (c₂ .if2 .taken) in let i : length (take (length l / 4) (now (a .index)))
-    ≡ length l / 4 = length-take-le (length l / 4) (now (a .index)) (omega (arith, c₉ .pre .1 .0, few)) in let s : length (take (length l / 4) (now
-    (a .spare))) ≡ length l / 4 = length-take-le (length l / 4) (now (a .spare)) (omega (arith, c₉ .pre .1 .1, few)) in (
+    ≡ length l / 4 = length-take-le (length l / 4) (now (a .index)) (c₉ .pre .1 few .0) in let s : length (take (length l / 4) (now
+    (a .spare))) ≡ length l / 4 = length-take-le (length l / 4) (now (a .spare)) (c₉ .pre .1 few .1) in (
       (
         i ∙ sym (length-facts l),
         omega (arith, i, few),
@@ -84,12 +93,12 @@ check-and-index-spec =
     (tie.spec
     returns
     (λ c κs. search needs)
-    (λ c. search needs)
+    slice-relend-prefix-make-index
     slice-aggregate-make-index
-    (λ c. search needs)
+    slice-relend-prefix-make-index-2
     slice-aggregate-make-index-2
     make-index-requires
-    (λ c. search needs)
+    slice-reshare-prefix-is-steady
     slice-aggregate-is-steady
     (λ c κs. search needs)
     (λ c. search needs)

@@ -9,8 +9,8 @@ use native.Mathlib.Omega.{arith}
 use mathlib.Core.Bool.{true, false, _&&_}
 use mathlib.Core.Path.{_≡_}
 use borrow.Author.Tests.{ltb-true}
+use Rattle.words.proofs.TestLaws.{and-both}
 use Rattle.words.specs.Fields.{isNode, sizeOf}
-use Rattle.syntax.proofs.Bridge.{both}
 use Rattle.syntax.proofs.Places.{token-within, token-not-within}
 use borrow.Author.Needs.{needs}
 use Rattle.syntax.proofs.accessors.is_token_within.Statement.{statement}
@@ -41,7 +41,7 @@ is-token-in-requires : tie.Need-is-token-in-requires
 is-token-in-requires c κs = search needs
 
 returns : tie.Need-returns
-returns c = let a = c .before .before .before .before .before .before .before .args in let w = now (a .words) in let p = drop (a .number * 3) w in let t : (isNode p && ltb (a .number) (a .inner) && ltb (a .inner) (a .number + sizeOf p)) ≡ true = rw (c .before .before .before .before .is-node .ensures, c .before .before .before .size .ensures, c .before .before .before .before .before .tail .ensures) at (c .before .before .if1 .taken) in let u = both (isNode p && ltb (a .number) (a .inner)) (ltb (a .inner) (a .number + sizeOf p)) t in let v = both (isNode p) (ltb (a .number) (a .inner)) (u .0) in c .is-token-in .ensures 0 ∙ rw (c .before .tail2 .ensures) (sym (token-within (a .number) (a .inner) w (search needs) (v .0) (ltb-true _ _ (v .1)) (ltb-true _ _ (u .1))))
+returns c = let a = c .before .before .before .before .before .before .before .args in let w = now (a .words) in let p = drop (a .number * 3) w in let t : (isNode p && ltb (a .number) (a .inner) && ltb (a .inner) (a .number + sizeOf p)) ≡ true = rw (c .before .before .before .before .is-node .ensures, c .before .before .before .size .ensures, c .before .before .before .before .before .tail .ensures) at (c .before .before .if1 .taken) in let u = and-both (isNode p && ltb (a .number) (a .inner)) (ltb (a .inner) (a .number + sizeOf p)) t in let v = and-both (isNode p) (ltb (a .number) (a .inner)) (u .0) in c .is-token-in .ensures 0 ∙ rw (c .before .tail2 .ensures) (sym (token-within (a .number) (a .inner) w (search needs) (v .0) (ltb-true _ _ (v .1)) (ltb-true _ _ (u .1))))
 
 returns-2 : tie.Need-returns-2
 returns-2 c = let a = c .before .before .before .before .before .args in let w = now (a .words) in let p = drop (a .number * 3) w in let t : (isNode p && ltb (a .number) (a .inner) && ltb (a .inner) (a .number + sizeOf p)) ≡ false = rw (c .before .before .is-node .ensures, c .before .size .ensures, c .before .before .before .tail .ensures) at (c .if1 .left) in sym (token-not-within (a .number) (a .inner) w (search needs) t)

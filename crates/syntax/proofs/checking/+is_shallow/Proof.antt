@@ -1,4 +1,4 @@
--- `syntax::checking::is_shallow` meets its contract.
+-- `syntax::checking::is_shallow` meets its contract: any answer that is right for what is left is right for the part.
 -- Assumes nothing.
 use mathlib.Core.Path.{_≡_, sym, ap, _∙_}
 use mathlib.Core.Bool.{Bool, true, false}
@@ -9,7 +9,7 @@ use native.Mathlib.Omega.{arith}
 use Rattle.syntax.specs.Parts.{span}
 use Rattle.syntax.specs.Trees.{depth, elems}
 use Rattle.syntax.proofs.PartLaws.{rest-shorter}
-use Rattle.syntax.proofs.DepthLaws.{shallow-end, shallow-zero, shallow-next}
+use Rattle.syntax.proofs.DepthLaws.{shallow-end, shallow-zero, shallow-next, shallow-few}
 use Prim.Native.Nat.{ℕ, _+_, _<_}
 use borrow.Fn.Kinds.{In}
 use borrow.Fn.PlainCycle.{Measures, is, falls, and}
@@ -18,6 +18,7 @@ use Rattle.syntax.proofs.checking.is_shallow.Kinds as is-shallow-kinds
 use Rattle.syntax.proofs.checking.+is_shallow.Lts-is_shallow as is-shallow-lts
 use Rattle.syntax.proofs.parts.children.Reads as children-reads
 use Rattle.syntax.proofs.parts.rest.Reads as rest-reads
+use Rattle.syntax.proofs.parts.span_of.Reads as span-of-reads
 use Rattle.syntax.proofs.checking.+is_shallow.{statement}
 use Rattle.syntax.proofs.checking.+is_shallow.Tie.{close}
 
@@ -34,7 +35,7 @@ is-shallow-below t =
 
 -- what it may take of each function that it calls, at the measure t
 abbrev is-shallow-claims : ℕ → is-shallow-lts.Claims
-is-shallow-claims t = (children-reads.Asked, children-reads.Learnt, is-shallow-below t, is-shallow.Post, rest-reads.Asked, rest-reads.Learnt)
+is-shallow-claims t = (span-of-reads.Asked, span-of-reads.Learnt, children-reads.Asked, children-reads.Learnt, is-shallow-below t, is-shallow.Post, rest-reads.Asked, rest-reads.Learnt)
 
 abbrev is-shallow-Inv-loop : is-shallow-lts.InvT-loop
 is-shallow-Inv-loop part levels c₀ c = (b : Bool) → ((j : ℕ) → b ≡ leb (depth (elems j c)) levels) → (i : ℕ) → b ≡ leb (depth (elems i part)) levels
@@ -45,14 +46,17 @@ is-shallow-μ-loop part levels c₀ c = length c
 is-shallow-loop-holds : (t : ℕ) → is-shallow-lts.Need-loop-holds (is-shallow-claims t) (is-shallow-at t) is-shallow.Post is-shallow-Inv-loop is-shallow-μ-loop
 is-shallow-loop-holds t c = λ b f. f
 
+is-shallow-span-of-requires : (t : ℕ) → is-shallow-lts.Need-span-of-requires (is-shallow-claims t) (is-shallow-at t) is-shallow.Post is-shallow-Inv-loop is-shallow-μ-loop
+is-shallow-span-of-requires t c κs = tt
+
 is-shallow-returns : (t : ℕ) → is-shallow-lts.Need-returns (is-shallow-claims t) (is-shallow-at t) is-shallow.Post is-shallow-Inv-loop is-shallow-μ-loop
-is-shallow-returns t c = c .before .before .loop .inv false (λ j. sym (rw (c .if1 .taken) (shallow-zero j (now (c .before .before .loop .c)) (c .before .loop-test .taken))))
+is-shallow-returns t c = c .before .before .before .before .loop .inv false (λ j. sym (rw (c .if2 .taken) (shallow-zero j (now (c .before .before .before .before .loop .c)) (c .before .before .before .loop-test .taken))))
 
 is-shallow-children-requires : (t : ℕ) → is-shallow-lts.Need-children-requires (is-shallow-claims t) (is-shallow-at t) is-shallow.Post is-shallow-Inv-loop is-shallow-μ-loop
 is-shallow-children-requires t c κs = tt
 
 is-shallow-sub-is-shallow : (t : ℕ) → is-shallow-lts.Need-sub-is-shallow (is-shallow-claims t) (is-shallow-at t) is-shallow.Post is-shallow-Inv-loop is-shallow-μ-loop
-is-shallow-sub-is-shallow t c = omega (arith, c .before .if1 .left)
+is-shallow-sub-is-shallow t c = omega (arith, c .before .if2 .left)
 
 is-shallow-is-shallow-requires : (t : ℕ) → is-shallow-lts.Need-is-shallow-requires (is-shallow-claims t) (is-shallow-at t) is-shallow.Post is-shallow-Inv-loop is-shallow-μ-loop
 is-shallow-is-shallow-requires t c κs = (omega arith, tt)
@@ -61,13 +65,22 @@ is-shallow-rest-requires : (t : ℕ) → is-shallow-lts.Need-rest-requires (is-s
 is-shallow-rest-requires t c κs = tt
 
 is-shallow-loop-less : (t : ℕ) → is-shallow-lts.Need-loop-less (is-shallow-claims t) (is-shallow-at t) is-shallow.Post is-shallow-Inv-loop is-shallow-μ-loop
-is-shallow-loop-less t c = omega (arith, ap length (c .rest .ensures), rest-shorter (now (c .before .before .before .before .before .before .loop .c)) (omega (arith, c .before .before .before .before .before .loop-test .taken)))
+is-shallow-loop-less t c = omega (arith, ap length (c .rest .ensures), rest-shorter (now (c .before .before .before .before .before .before .before .before .loop .c)) (omega (arith, c .before .before .before .before .before .before .before .loop-test .taken)))
 
 is-shallow-loop-again : (t : ℕ) → is-shallow-lts.Need-loop-again (is-shallow-claims t) (is-shallow-at t) is-shallow.Post is-shallow-Inv-loop is-shallow-μ-loop
-is-shallow-loop-again t c = λ b f. c .before .before .before .before .before .before .loop .inv b (λ j. f (j + span (now (c .before .before .before .before .before .before .loop .c))) ∙ sym (shallow-next j (now (c .before .before .before .before .before .before .loop .c)) _ (c .before .before .before .before .before .loop-test .taken) (omega (arith, c .before .before .before .before .if1 .left)) ∙ rw (← c .before .before .before .children .ensures, ← c .before .before .is-shallow .ensures (j + 1), c .before .if2 .taken, ← c .rest .ensures)))
+is-shallow-loop-again t c = λ b f. c .before .before .before .before .before .before .before .before .loop .inv b (λ j. f (j + span (now (c .before .before .before .before .before .before .before .before .loop .c))) ∙ sym (shallow-next j (now (c .before .before .before .before .before .before .before .before .loop .c)) _ (c .before .before .before .before .before .before .before .loop-test .taken) (omega (arith, c .before .before .before .before .if2 .left)) ∙ rw (← c .before .before .before .children .ensures, ← c .before .before .is-shallow .ensures (j + 1), c .before .if3 .taken, ← c .rest .ensures)))
 
 is-shallow-returns-2 : (t : ℕ) → is-shallow-lts.Need-returns-2 (is-shallow-claims t) (is-shallow-at t) is-shallow.Post is-shallow-Inv-loop is-shallow-μ-loop
-is-shallow-returns-2 t c = c .before .before .before .before .before .loop .inv false (λ j. sym (shallow-next j (now (c .before .before .before .before .before .loop .c)) _ (c .before .before .before .before .loop-test .taken) (omega (arith, c .before .before .before .if1 .left)) ∙ rw (← c .before .before .children .ensures, ← c .before .is-shallow .ensures (j + 1), c .if2 .left)))
+is-shallow-returns-2 t c = c .before .before .before .before .before .before .before .loop .inv false (λ j. sym (shallow-next j (now (c .before .before .before .before .before .before .before .loop .c)) _ (c .before .before .before .before .before .before .loop-test .taken) (omega (arith, c .before .before .before .if2 .left)) ∙ rw (← c .before .before .children .ensures, ← c .before .is-shallow .ensures (j + 1), c .if3 .left)))
+
+is-shallow-rest-requires-2 : (t : ℕ) → is-shallow-lts.Need-rest-requires-2 (is-shallow-claims t) (is-shallow-at t) is-shallow.Post is-shallow-Inv-loop is-shallow-μ-loop
+is-shallow-rest-requires-2 t c κs = tt
+
+is-shallow-loop-less-2 : (t : ℕ) → is-shallow-lts.Need-loop-less-2 (is-shallow-claims t) (is-shallow-at t) is-shallow.Post is-shallow-Inv-loop is-shallow-μ-loop
+is-shallow-loop-less-2 t c = omega (arith, ap length (c .rest2 .ensures), rest-shorter (now (c .before .before .before .before .loop .c)) (omega (arith, c .before .before .before .loop-test .taken)))
+
+is-shallow-loop-again-2 : (t : ℕ) → is-shallow-lts.Need-loop-again-2 (is-shallow-claims t) (is-shallow-at t) is-shallow.Post is-shallow-Inv-loop is-shallow-μ-loop
+is-shallow-loop-again-2 t c = λ b f. c .before .before .before .before .loop .inv b (λ j. f (j + span (now (c .before .before .before .before .loop .c))) ∙ sym (shallow-few j (now (c .before .before .before .before .loop .c)) _ (c .before .before .before .loop-test .taken) (omega (arith, c .before .before .span-of .ensures, c .before .if1 .left)) ∙ rw (← c .rest2 .ensures)))
 
 is-shallow-returns-3 : (t : ℕ) → is-shallow-lts.Need-returns-3 (is-shallow-claims t) (is-shallow-at t) is-shallow.Post is-shallow-Inv-loop is-shallow-μ-loop
 is-shallow-returns-3 t c = c .before .loop .inv true (λ j. sym (shallow-end j (now (c .before .loop .c)) _ (omega (arith, c .loop-test .left))))
@@ -79,6 +92,7 @@ pub +is-shallow-spec : {M : Type 1} → statement M
     is-shallow-Inv-loop
     is-shallow-μ-loop
     (is-shallow-loop-holds t)
+    (is-shallow-span-of-requires t)
     (is-shallow-returns t)
     (is-shallow-children-requires t)
     (is-shallow-sub-is-shallow t)
@@ -87,4 +101,7 @@ pub +is-shallow-spec : {M : Type 1} → statement M
     (is-shallow-loop-less t)
     (is-shallow-loop-again t)
     (is-shallow-returns-2 t)
+    (is-shallow-rest-requires-2 t)
+    (is-shallow-loop-less-2 t)
+    (is-shallow-loop-again-2 t)
     (is-shallow-returns-3 t)
