@@ -2,6 +2,7 @@
 //! three always give the same case.
 
 pub mod arguments;
+pub mod bent_trees;
 mod damage;
 mod derive;
 mod facts;
@@ -16,6 +17,8 @@ mod parts;
 mod rng;
 mod tiny;
 mod tokens;
+pub mod tree_limits;
+pub mod trees;
 mod world;
 
 pub use jobs::awkward_buffers;
