@@ -4,8 +4,10 @@
 mod bench;
 mod comparison;
 mod library;
+mod plain;
 mod sample;
 mod small_stack;
+mod tree_bench;
 mod trees;
 
 use std::io::{BufRead, Write, stdin, stdout};
@@ -38,7 +40,10 @@ fn run(arguments: &[&str]) -> Result<bool, String> {
         ["generated", seed, count] => Ok(generated(number(seed)?, number(count)?)),
         ["trees", "corpus"] => trees::corpus(),
         ["trees", "damaged", seed, count] => trees::damaged(number(seed)?, number(count)?),
-        ["bench"] => Ok(bench::run()),
+        ["bench"] => {
+            bench::run();
+            Ok(tree_bench::run())
+        }
         ["sample", seed, count] => {
             let sample = sample::make(number(seed)?, number(count)? as usize)?;
             stdout().write_all(&sample).map_err(|error| error.to_string())?;

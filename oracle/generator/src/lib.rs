@@ -23,9 +23,9 @@ mod world;
 
 pub use jobs::awkward_buffers;
 pub use parse::complete;
+pub use rng::Rng;
 
 use input::Operation;
-use rng::Rng;
 use tiny::Family;
 
 /// A class of cases.
