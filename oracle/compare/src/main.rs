@@ -8,6 +8,7 @@ mod plain;
 mod sample;
 mod small_stack;
 mod tree_bench;
+mod tree_sample;
 mod trees;
 
 use std::io::{BufRead, Write, stdin, stdout};
