@@ -6,7 +6,7 @@ use crate::kinds::{EXPR_STMT, WHITESPACE};
 use crate::limits::overgrow_file;
 use crate::rng::Rng;
 use crate::trees::shuffle_facts;
-use input::build::element_word;
+use input::build::{element_word, fact};
 use input::words::{FACT, NODE, TOKEN, fact_element, fact_sort, low16, value, word, word_kind};
 use input::{File, RuleSide, TreeCheck};
 
@@ -18,7 +18,7 @@ pub const HARMLESS: [&str; 3] =
     ["facts: another order", "rule: white space around the list", "rule: other flags than 0 and 1"];
 
 /// All ways to damage a copy.
-pub const DAMAGES: [(&str, Damage); 38] = [
+pub const DAMAGES: [(&str, Damage); 39] = [
     ("tree: word kind", |rng, c| bend(rng, &mut c.tree.tree, other_word_kind)),
     ("tree: one bit", |rng, c| bend(rng, &mut c.tree.tree, other_bit)),
     ("tree: syntax kind", |rng, c| other_syntax_kind(rng, &mut c.tree.tree)),
@@ -46,6 +46,7 @@ pub const DAMAGES: [(&str, Damage); 38] = [
     ("facts: two words swapped", |rng, c| swap(rng, &mut c.tree.facts, 4)),
     ("facts: a word dropped", |rng, c| drop_words(rng, &mut c.tree.facts, 1)),
     ("facts: a word added", |rng, c| add_word(rng, &mut c.tree.facts)),
+    ("facts: only one, at an edge of its form", fact_at_edge),
     (HARMLESS[0], another_order),
     ("text: one byte longer", |_, c| longer(&mut c.tree.text)),
     ("text: one byte shorter", |_, c| c.tree.text.pop().is_some()),
@@ -305,6 +306,51 @@ fn change_fact(
     let at = *rng.pick(&places);
     change(facts, at);
     true
+}
+
+/// One fact instead of all: its element of the kind that its sort names or of one beside it, its
+/// values the last that are allowed or the next.
+fn fact_at_edge(rng: &mut Rng, copy: &mut TreeCheck) -> bool {
+    let Some(at) = place(rng, &copy.tree.tree, 3) else { return false };
+    let sort = any_sort(rng, copy.rule.as_ref());
+    let head = &mut copy.tree.tree[at];
+    if word_kind(*head) == NODE {
+        let kinds: &[u32] = match sort {
+            2 => &[65, 65, 64, 66],
+            3 => &[64, 1023, 63, 1024],
+            5 => &[9, 9, 9, 8],
+            _ => &[2, 2, 2, 1],
+        };
+        *head = element_word(NODE, *rng.pick(kinds), low16(*head));
+    }
+    let (element, size) = (at / 3, low16(*head));
+    let fact_text = copy.rule.as_ref().map_or(0, |rule| rule.fact_text.len()) as u32;
+    let values = edge_values(rng, sort, [element as u32, size, fact_text]);
+    copy.tree.facts = fact(sort, element, values).to_vec();
+    true
+}
+
+/// Mostly one that may stand on the tree.
+fn any_sort(rng: &mut Rng, rule: Option<&RuleSide>) -> u32 {
+    let allowed: &[u32] = match rule.map(|rule| rule.side) {
+        None => &[0, 2, 3, 5, 6],
+        Some(0) => &[1, 4],
+        Some(_) => &[1, 7],
+    };
+    if rng.chance(75) { *rng.pick(allowed) } else { rng.below(9) as u32 }
+}
+
+fn edge_values(rng: &mut Rng, sort: u32, [element, size, fact_text]: [u32; 3]) -> [u32; 3] {
+    let mut one_of = |values: &[u32]| *rng.pick(values);
+    let unused = [one_of(&[0, 0, 0, 0, 0, 1]), one_of(&[0, 0, 0, 0, 0, 1])];
+    match sort {
+        1 => [1, one_of(&[0, 7, 8]), unused[1]],
+        2 => [1, one_of(&[0, 1, 2]), one_of(&[0, 2, 3])],
+        3 => [one_of(&[0, 0, 1]), 9, unused[1]],
+        5 => [element + one_of(&[0, 1, 2, size.max(1) - 1, size]), unused[0], unused[1]],
+        7 => [1, one_of(&[0, fact_text, fact_text + 1]), one_of(&[0, 1, fact_text])],
+        _ => [1, unused[0], unused[1]],
+    }
 }
 
 fn another_order(rng: &mut Rng, copy: &mut TreeCheck) -> bool {
