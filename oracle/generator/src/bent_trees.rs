@@ -115,6 +115,19 @@ fn place(rng: &mut Rng, words: &[u32], stride: usize) -> Option<usize> {
     (count > 0).then(|| stride * rng.below(count))
 }
 
+/// The places of the facts of a sort.
+fn places_of(facts: &[u32], sort: u32) -> Vec<usize> {
+    let heads = (0..facts.len() / 4).map(|fact| 4 * fact);
+    heads.filter(|&at| fact_sort(facts[at]) == sort).collect()
+}
+
+/// The place of a fact. Each sort is as likely, since most facts are of one.
+fn fact_place(rng: &mut Rng, facts: &[u32]) -> Option<usize> {
+    let any = place(rng, facts, 4)?;
+    let places = places_of(facts, rng.below(8) as u32);
+    Some(if places.is_empty() { any } else { *rng.pick(&places) })
+}
+
 fn other_syntax_kind(rng: &mut Rng, tree: &mut [u32]) -> bool {
     let Some(at) = place(rng, tree, 3) else { return false };
     let kind = *rng.pick(&[0, 1, 2, 9, 64, 65, 1023, 1024, 2048, 4095]);
@@ -245,7 +258,7 @@ fn bend_field(
     field: usize,
     other: fn(&mut Rng, u32) -> u32,
 ) -> bool {
-    let Some(at) = place(rng, facts, 4) else { return false };
+    let Some(at) = fact_place(rng, facts) else { return false };
     facts[at + field] = other(rng, facts[at + field]);
     true
 }
@@ -264,7 +277,7 @@ fn other_value(rng: &mut Rng, old: u32) -> u32 {
 }
 
 fn other_element(rng: &mut Rng, file: &mut File) -> bool {
-    let Some(at) = place(rng, &file.facts, 4) else { return false };
+    let Some(at) = fact_place(rng, &file.facts) else { return false };
     let old = file.facts[at];
     let elements = file.tree.len() / 3;
     let any = rng.below(elements + 1) as u32;
@@ -275,7 +288,7 @@ fn other_element(rng: &mut Rng, file: &mut File) -> bool {
 
 /// A fact a second time, in half of the cases with another value outside its key.
 fn repeat_fact(rng: &mut Rng, facts: &mut Vec<u32>) -> bool {
-    let Some(at) = place(rng, facts, 4) else { return false };
+    let Some(at) = fact_place(rng, facts) else { return false };
     let mut copy = facts[at..at + 4].to_vec();
     if rng.chance(50) {
         let field = if [3, 7].contains(&fact_sort(copy[0])) { 2 } else { 1 };
@@ -298,8 +311,7 @@ fn change_fact(
     sort: u32,
     change: impl FnOnce(&mut Vec<u32>, usize),
 ) -> bool {
-    let heads = (0..facts.len() / 4).map(|fact| 4 * fact);
-    let places: Vec<usize> = heads.filter(|&at| fact_sort(facts[at]) == sort).collect();
+    let places = places_of(facts, sort);
     if places.is_empty() {
         return false;
     }
@@ -375,6 +387,9 @@ fn on_rule(copy: &mut TreeCheck, change: impl FnOnce(&mut RuleSide)) -> bool {
 /// White space at the ends of a list is no part of the code.
 fn surround(rng: &mut Rng, copy: &mut TreeCheck) -> bool {
     let Some(RuleSide { list, .. }) = &mut copy.rule else { return false };
+    if list.words.len() >= 255 {
+        return false;
+    }
     let space = element_word(TOKEN, WHITESPACE, 2);
     if rng.chance(50) {
         list.words.insert(0, space);
@@ -383,7 +398,7 @@ fn surround(rng: &mut Rng, copy: &mut TreeCheck) -> bool {
         list.words.push(space);
         list.text.extend(b"\n ");
     }
-    list.words.len() <= 255
+    true
 }
 
 fn other_code(rng: &mut Rng, code: &mut Vec<u8>) -> bool {
