@@ -1,14 +1,21 @@
 //! Damaged copies of trees with facts. Each way to damage one has a name, so that it can be told
 //! which of them change an answer.
 
+mod elements;
+mod facts;
+mod words;
+
 use crate::damage::{bytes, damage_list};
-use crate::kinds::{EXPR_STMT, WHITESPACE};
+use crate::kinds::WHITESPACE;
 use crate::limits::overgrow_file;
 use crate::rng::Rng;
 use crate::trees::shuffle_facts;
-use input::build::{element_word, fact};
-use input::words::{FACT, NODE, TOKEN, fact_element, fact_sort, low16, value, word, word_kind};
-use input::{File, RuleSide, TreeCheck};
+use elements::*;
+use facts::*;
+use input::build::element_word;
+use input::words::TOKEN;
+use input::{RuleSide, TreeCheck};
+use words::*;
 
 /// Damages a copy; false where it has nothing of the sort to damage.
 pub type Damage = fn(&mut Rng, &mut TreeCheck) -> bool;
@@ -74,295 +81,10 @@ pub fn bend_copy(seed: u64, index: u64, copy: &mut TreeCheck) -> Vec<&'static st
     names
 }
 
-fn bend(rng: &mut Rng, words: &mut [u32], other: fn(&mut Rng, u32) -> u32) -> bool {
-    if words.is_empty() {
-        return false;
-    }
-    let at = rng.below(words.len());
-    words[at] = other(rng, words[at]);
-    true
-}
-
-fn other_word_kind(rng: &mut Rng, old: u32) -> u32 {
-    word((word_kind(old) + rng.between(1, 15) as u32) % 16, value(old))
-}
-
-fn other_bit(rng: &mut Rng, old: u32) -> u32 {
-    old ^ (1 << rng.below(32))
-}
-
-fn with_value(old: u32, value: u32) -> u32 {
-    word(word_kind(old), value)
-}
-
-fn with_size(old: u32, size: u32) -> u32 {
-    (old & 0xffff_0000) | (size & 0xffff)
-}
-
-/// A number one off, another that occurs, or one at an end of what there is.
-fn other_number(rng: &mut Rng, number: u32, occurs: u32, limit: usize) -> u32 {
-    match rng.below(8) {
-        0..=2 => number.wrapping_add(1),
-        3..=5 => number.wrapping_sub(1),
-        6 => occurs,
-        _ => *rng.pick(&[0, limit as u32, limit as u32 + 1, u32::MAX]),
-    }
-}
-
-/// The place of the first word of an element or fact of `stride` words; none if there is none.
-fn place(rng: &mut Rng, words: &[u32], stride: usize) -> Option<usize> {
-    let count = words.len() / stride;
-    (count > 0).then(|| stride * rng.below(count))
-}
-
-/// The places of the facts of a sort.
-fn places_of(facts: &[u32], sort: u32) -> Vec<usize> {
-    let heads = (0..facts.len() / 4).map(|fact| 4 * fact);
-    heads.filter(|&at| fact_sort(facts[at]) == sort).collect()
-}
-
-/// The place of a fact. Each sort is as likely, since most facts are of one.
-fn fact_place(rng: &mut Rng, facts: &[u32]) -> Option<usize> {
-    let any = place(rng, facts, 4)?;
-    let places = places_of(facts, rng.below(8) as u32);
-    Some(if places.is_empty() { any } else { *rng.pick(&places) })
-}
-
-fn other_syntax_kind(rng: &mut Rng, tree: &mut [u32]) -> bool {
-    let Some(at) = place(rng, tree, 3) else { return false };
-    let kind = *rng.pick(&[0, 1, 2, 9, 64, 65, 1023, 1024, 2048, 4095]);
-    tree[at] = (tree[at] & 0xf000_ffff) | kind << 16;
-    true
-}
-
-fn other_size(rng: &mut Rng, tree: &mut [u32]) -> bool {
-    let Some(at) = place(rng, tree, 3) else { return false };
-    let occurs = low16(*rng.pick(tree));
-    let size = other_number(rng, low16(tree[at]), occurs, tree.len() / 3);
-    tree[at] = with_size(tree[at], size);
-    true
-}
-
-/// Another start (word 1 of an element) or end (word 2).
-fn other_offset(rng: &mut Rng, file: &mut File, field: usize) -> bool {
-    let tree = &mut file.tree;
-    let Some(at) = place(rng, tree, 3) else { return false };
-    let occurs = value(*rng.pick(tree));
-    let offset = other_number(rng, value(tree[at + field]), occurs, file.text.len());
-    tree[at + field] = with_value(tree[at + field], offset);
-    true
-}
-
-/// Mostly two words that stand at the same place of an element or fact.
-fn swap(rng: &mut Rng, words: &mut [u32], stride: usize) -> bool {
-    let Some(other) = place(rng, words, stride) else { return false };
-    let at = rng.below(words.len());
-    let other = if rng.chance(70) { other + at % stride } else { rng.below(words.len()) };
-    words.swap(at, other);
-    words[at] != words[other]
-}
-
-fn drop_words(rng: &mut Rng, words: &mut Vec<u32>, stride: usize) -> bool {
-    let Some(at) = place(rng, words, stride) else { return false };
-    words.drain(at..at + stride);
-    true
-}
-
-fn add_word(rng: &mut Rng, words: &mut Vec<u32>) -> bool {
-    let copied = if words.is_empty() { 0 } else { *rng.pick(words) };
-    let at = rng.below(words.len() + 1);
-    words.insert(at, *rng.pick(&[copied, copied, 0, u32::MAX]));
-    true
-}
-
-/// Adds to the size of every node around an element.
-fn resize_around(tree: &mut [u32], element: usize, by: u32) {
-    for (i, [head, ..]) in tree.as_chunks_mut::<3>().0[..element].iter_mut().enumerate() {
-        if i + low16(*head) as usize > element {
-            *head = with_size(*head, low16(*head).wrapping_add(by));
-        }
-    }
-}
-
-/// The tree stays well-formed where the leaf is an empty node.
-fn drop_leaf(rng: &mut Rng, file: &mut File) -> bool {
-    let elements = file.tree.len() / 3;
-    let leaves: Vec<usize> = (1..elements).filter(|&e| low16(file.tree[3 * e]) == 1).collect();
-    if leaves.is_empty() {
-        return false;
-    }
-    let leaf = *rng.pick(&leaves);
-    resize_around(&mut file.tree, leaf, u32::MAX);
-    file.tree.drain(3 * leaf..3 * leaf + 3);
-    clear_sometimes(rng, &mut file.facts);
-    true
-}
-
-/// The tree stays well-formed, unless it gets too deep.
-fn wrap(rng: &mut Rng, file: &mut File) -> bool {
-    let Some(at) = place(rng, &file.tree, 3) else { return false };
-    resize_around(&mut file.tree, at / 3, 1);
-    let head = element_word(NODE, EXPR_STMT, low16(file.tree[at]) + 1);
-    let around = [head, file.tree[at + 1], file.tree[at + 2]];
-    file.tree.splice(at..at, around);
-    clear_sometimes(rng, &mut file.facts);
-    true
-}
-
-/// The elements have other numbers: without facts that does not matter.
-fn clear_sometimes(rng: &mut Rng, facts: &mut Vec<u32>) {
-    if rng.chance(50) {
-        facts.clear();
-    }
-}
-
-/// The tree stays well-formed where the node is not its parent's last child.
-fn take_in(rng: &mut Rng, tree: &mut [u32]) -> bool {
-    let Some(at) = place(rng, tree, 3) else { return false };
-    let size = low16(tree[at]);
-    let next = at + 3 * size as usize;
-    if word_kind(tree[at]) != NODE || next + 2 >= tree.len() {
-        return false;
-    }
-    tree[at] = with_size(tree[at], size + low16(tree[next]));
-    tree[at + 2] = tree[next + 2];
-    true
-}
-
-/// All elements that start or end at one byte do so at the next: the tree stays well-formed,
-/// unless a token gets empty.
-fn move_border(rng: &mut Rng, tree: &mut [u32]) -> bool {
-    let Some(at) = place(rng, tree, 3) else { return false };
-    let old = value(tree[at + 2]);
-    let new = if rng.chance(50) { old.wrapping_add(1) } else { old.wrapping_sub(1) };
-    for [_, start, end] in tree.as_chunks_mut::<3>().0 {
-        for offset in [start, end] {
-            if value(*offset) == old {
-                *offset = with_value(*offset, new);
-            }
-        }
-    }
-    true
-}
-
 fn absent(rng: &mut Rng, copy: &mut TreeCheck) -> bool {
     copy.tree.tree.clear();
     clear_sometimes(rng, &mut copy.tree.facts);
     true
-}
-
-/// Another value for word `field` of a fact.
-fn bend_field(
-    rng: &mut Rng,
-    facts: &mut [u32],
-    field: usize,
-    other: fn(&mut Rng, u32) -> u32,
-) -> bool {
-    let Some(at) = fact_place(rng, facts) else { return false };
-    facts[at + field] = other(rng, facts[at + field]);
-    true
-}
-
-fn other_sort(rng: &mut Rng, old: u32) -> u32 {
-    fact_word(*rng.pick(&[0, 1, 2, 3, 4, 5, 6, 7, 8, 15]), fact_element(old))
-}
-
-fn fact_word(sort: u32, element: u32) -> u32 {
-    word(FACT, sort << 24 | element & 0x00ff_ffff)
-}
-
-fn other_value(rng: &mut Rng, old: u32) -> u32 {
-    let small = rng.below(9) as u32;
-    with_value(old, other_number(rng, value(old), small, 7))
-}
-
-fn other_element(rng: &mut Rng, file: &mut File) -> bool {
-    let Some(at) = fact_place(rng, &file.facts) else { return false };
-    let old = file.facts[at];
-    let elements = file.tree.len() / 3;
-    let any = rng.below(elements + 1) as u32;
-    let element = other_number(rng, fact_element(old), any, elements);
-    file.facts[at] = fact_word(fact_sort(old), element);
-    true
-}
-
-/// A fact a second time, in half of the cases with another value outside its key.
-fn repeat_fact(rng: &mut Rng, facts: &mut Vec<u32>) -> bool {
-    let Some(at) = fact_place(rng, facts) else { return false };
-    let mut copy = facts[at..at + 4].to_vec();
-    if rng.chance(50) {
-        let field = if [3, 7].contains(&fact_sort(copy[0])) { 2 } else { 1 };
-        copy[field] = other_value(rng, copy[field]);
-    }
-    let to = place(rng, facts, 4).unwrap_or(at);
-    facts.splice(to..to, copy);
-    true
-}
-
-/// Where it is the last step, the list stays well-formed.
-fn drop_step(rng: &mut Rng, facts: &mut Vec<u32>) -> bool {
-    change_fact(rng, facts, 3, |facts, at| drop(facts.drain(at..at + 4)))
-}
-
-/// Changes one fact of a sort; false where there is none.
-fn change_fact(
-    rng: &mut Rng,
-    facts: &mut Vec<u32>,
-    sort: u32,
-    change: impl FnOnce(&mut Vec<u32>, usize),
-) -> bool {
-    let places = places_of(facts, sort);
-    if places.is_empty() {
-        return false;
-    }
-    let at = *rng.pick(&places);
-    change(facts, at);
-    true
-}
-
-/// One fact instead of all: its element of the kind that its sort names or of one beside it, its
-/// values the last that are allowed or the next.
-fn fact_at_edge(rng: &mut Rng, copy: &mut TreeCheck) -> bool {
-    let Some(at) = place(rng, &copy.tree.tree, 3) else { return false };
-    let sort = any_sort(rng, copy.rule.as_ref());
-    let head = &mut copy.tree.tree[at];
-    if word_kind(*head) == NODE {
-        let kinds: &[u32] = match sort {
-            2 => &[65, 65, 64, 66],
-            3 => &[64, 1023, 63, 1024],
-            5 => &[9, 9, 9, 8],
-            _ => &[2, 2, 2, 1],
-        };
-        *head = element_word(NODE, *rng.pick(kinds), low16(*head));
-    }
-    let (element, size) = (at / 3, low16(*head));
-    let fact_text = copy.rule.as_ref().map_or(0, |rule| rule.fact_text.len()) as u32;
-    let values = edge_values(rng, sort, [element as u32, size, fact_text]);
-    copy.tree.facts = fact(sort, element, values).to_vec();
-    true
-}
-
-/// Mostly one that may stand on the tree.
-fn any_sort(rng: &mut Rng, rule: Option<&RuleSide>) -> u32 {
-    let allowed: &[u32] = match rule.map(|rule| rule.side) {
-        None => &[0, 2, 3, 5, 6],
-        Some(0) => &[1, 4],
-        Some(_) => &[1, 7],
-    };
-    if rng.chance(75) { *rng.pick(allowed) } else { rng.below(9) as u32 }
-}
-
-fn edge_values(rng: &mut Rng, sort: u32, [element, size, fact_text]: [u32; 3]) -> [u32; 3] {
-    let mut one_of = |values: &[u32]| *rng.pick(values);
-    let unused = [one_of(&[0, 0, 0, 0, 0, 1]), one_of(&[0, 0, 0, 0, 0, 1])];
-    match sort {
-        1 => [1, one_of(&[0, 7, 8]), unused[1]],
-        2 => [1, one_of(&[0, 1, 2]), one_of(&[0, 2, 3])],
-        3 => [one_of(&[0, 0, 1]), 9, unused[1]],
-        5 => [element + one_of(&[0, 1, 2, size.max(1) - 1, size]), unused[0], unused[1]],
-        7 => [1, one_of(&[0, fact_text, fact_text + 1]), one_of(&[0, 1, fact_text])],
-        _ => [1, unused[0], unused[1]],
-    }
 }
 
 fn another_order(rng: &mut Rng, copy: &mut TreeCheck) -> bool {
