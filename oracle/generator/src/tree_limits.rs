@@ -43,6 +43,7 @@ fn trees() -> Vec<(&'static str, File, u32)> {
         ("16,383 elements, each in the one before", nested(MOST), 20),
         ("16,383 elements, two to a level", comb(MOST), 20),
         ("16,384 elements, each in the one before", nested(MOST + 1), 18),
+        ("16,383 elements, every second up to the end", overlapping(MOST), 19),
     ];
     let bent = |place: usize, word| {
         let mut file = nested(MOST);
@@ -78,6 +79,12 @@ pub fn chains(elements: usize, depth: usize) -> File {
 /// A line of nodes, each with an empty node before the next one.
 fn comb(elements: usize) -> File {
     laid(elements, |i| if i % 2 == 0 { elements - i } else { 1 })
+}
+
+/// Nodes of size 2, in each one whose size is all the rest: where the children of each node were
+/// looked through without a look at the parents, the time would grow with the square of the size.
+fn overlapping(elements: usize) -> File {
+    laid(elements, |i| if i % 2 == 0 { elements - i } else { 2 })
 }
 
 /// Empty nodes of these sizes.
