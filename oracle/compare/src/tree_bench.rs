@@ -13,7 +13,7 @@ use input::build::{Syntax, fact, node, token};
 use crate::{library, plain};
 
 const SIZES: [usize; 3] = [1_000, 4_000, 16_383];
-const ROUNDS: usize = 11;
+const ROUNDS: usize = 21;
 /// How long a round takes about, so that a clock's own time does not count.
 const ROUND: Duration = Duration::from_millis(5);
 
@@ -83,11 +83,11 @@ fn report(name: &str, what: &str, make: Make, unit: fn(usize, Duration) -> f64) 
     let mut equal = true;
     for size in SIZES {
         let file = make(size);
-        let of_library = || library::check_file(black_box(&file));
-        let of_plain = || plain::check_file(black_box(&file));
-        let (number, plain_number) = (of_library(), of_plain());
-        equal &= number == plain_number;
-        let (library, plain) = (median(of_library), median(of_plain));
+        let library = || library::check_file(black_box(&file));
+        let plain = || plain::check_file(black_box(&file));
+        let number = library();
+        equal &= number == plain();
+        let [library, plain] = medians([&library, &plain]);
         println!(
             "{name:16} {size:6} {what}, answer {number:2}: the library {:8.3}, plain Rust {:8.3}; \
              {:.2} of plain Rust's time",
@@ -99,13 +99,22 @@ fn report(name: &str, what: &str, make: Make, unit: fn(usize, Duration) -> f64) 
     equal
 }
 
-/// The time of one call.
-fn median(work: impl Fn() -> u32) -> Duration {
-    let once = timed(1, &work).max(Duration::from_nanos(1));
-    let repeats = (ROUND.as_nanos() / once.as_nanos()).clamp(1, 10_000) as u32;
-    let mut rounds: Vec<Duration> = (0..ROUNDS).map(|_| timed(repeats, &work)).collect();
-    rounds.sort();
-    rounds[ROUNDS / 2] / repeats
+/// The times of a call of each, in rounds that take turns, since the machine may have other work.
+fn medians(works: [&dyn Fn() -> u32; 2]) -> [Duration; 2] {
+    let repeats = works.map(|work| {
+        let once = timed(1, work).as_nanos().max(1);
+        (ROUND.as_nanos() / once).clamp(1, 10_000) as u32
+    });
+    let mut rounds = [const { Vec::new() }; 2];
+    for _ in 0..ROUNDS {
+        for (i, work) in works.iter().enumerate() {
+            rounds[i].push(timed(repeats[i], work) / repeats[i]);
+        }
+    }
+    rounds.map(|mut times| {
+        times.sort();
+        times[ROUNDS / 2]
+    })
 }
 
 fn timed(repeats: u32, work: impl Fn() -> u32) -> Duration {
