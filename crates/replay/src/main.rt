@@ -5,7 +5,7 @@ use libc::STDOUT_FILENO;
 
 mod records; // records.rt: a record and its parts
 mod answers; // answers.rt: the bytes of an answer
-mod trees; // trees.rt: trees with their facts
+mod checks; // checks.rt: trees with their facts
 
 ghost use Prim.Native.Nat.{_<_};
 
@@ -72,8 +72,8 @@ fn is_right(operation: usize, parts: &[u8]) -> bool {
         1 => read_tokens(parts),
         2 => check_pair(parts),
         3 => raw_code(parts),
-        4 => trees::check_file(parts),
-        5 => trees::check_rule_tree(parts),
+        4 => checks::check_file(parts),
+        5 => checks::check_rule_tree(parts),
         _ => false,
     }
 }

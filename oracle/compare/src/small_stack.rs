@@ -6,8 +6,8 @@ use input::TreeCheck;
 
 use crate::library;
 
-/// What the library's own arrays take at most, and 256 KiB more for all else.
-pub const STACK: usize = 600_000 + 256 * 1024;
+/// What the library's own arrays take, and 256 KiB more for all else.
+pub const STACK: usize = 2 * 16_384 * 8 + 256 * 1024;
 
 /// The numbers of trees with facts; a stack that is used up ends the program.
 pub fn check_trees(checks: &[&TreeCheck]) -> Result<Vec<u32>, String> {
