@@ -18,6 +18,9 @@ const MOST: usize = 1_500;
 /// The numbers that a table tells apart; those of a list are one.
 const NUMBERS: [&str; 6] = ["0", "1-13", "18", "19", "20", "21"];
 
+/// The name of trees that are no copies.
+const WHOLE: &str = "not damaged";
+
 fn column(number: u32) -> usize {
     match number {
         0 => 0,
@@ -79,18 +82,15 @@ impl Tally {
         self.different == 0
     }
 
-    /// Whether the harmless damages, and only they, never changed a number.
+    /// Prints which damages changed no number: whether the harmless ones are among them.
     fn print_idle(&self) -> bool {
-        let idle = |row: &Row| row.changed == 0 && row.counts != [0; NUMBERS.len()];
-        let mut idle: Vec<&str> =
-            self.rows.iter().filter(|(_, row)| idle(row)).map(|(name, _)| *name).collect();
-        idle.retain(|name| *name != WHOLE);
+        let is_idle = |name: &&str| self.rows.get(name).is_none_or(|row| row.changed == 0);
+        let names = self.rows.keys().copied().filter(|name| *name != WHOLE);
+        let idle: Vec<&str> = names.filter(is_idle).collect();
         println!("no number was changed by: {}", idle.join("; "));
-        HARMLESS.iter().all(|name| self.rows.get(name).is_none_or(|row| row.changed == 0))
+        HARMLESS.iter().all(is_idle)
     }
 }
-
-const WHOLE: &str = "not damaged";
 
 /// Trees at the limits, then `count` damaged copies of well-formed trees.
 pub fn damaged(seed: u64, count: u64) -> Result<bool, String> {
