@@ -4,10 +4,10 @@ use crate::facts::{Facts, Place};
 use crate::lists::{read_pair, read_pairs};
 use crate::lowest::Lowest;
 use crate::parses::read_parses;
-use crate::rules::{Rule, build, read_trees, resolve};
+use crate::rules::{Rule, build, check_rule_tree, read_trees, resolve};
 use crate::tokens::read_tokens;
 use crate::tree::Tree;
-use input::{File, Job, Operation, Parses, Rules, pairs, used};
+use input::{File, Job, Operation, Parses, Rules, TreeCheck, pairs, used};
 use std::collections::BTreeSet;
 
 /// What refuses an operation before its work. For the walk its second 24 and 28 are not
@@ -67,6 +67,15 @@ pub fn checked_file(file: &File) -> Result<(Tree, Facts), u32> {
     let tree = Tree::read(&file.tree, &file.text, None)?;
     let facts = Facts::read(&file.facts, Some(&tree), Place::File, 0)?;
     Ok((tree, facts))
+}
+
+/// The number of a tree with its facts that is checked by itself; 0 where nothing refuses.
+pub fn check_tree(check: &TreeCheck) -> u32 {
+    let result = match &check.rule {
+        None => checked_file(&check.tree).map(drop),
+        Some(beside) => check_rule_tree(&check.tree, beside),
+    };
+    result.err().unwrap_or(0)
 }
 
 fn check_job(job: &Job) -> Result<(), u32> {

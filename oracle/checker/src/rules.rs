@@ -3,9 +3,9 @@
 use crate::facts::{Facts, Place};
 use crate::lists::PairLists;
 use crate::lowest::Lowest;
-use crate::tokens::{ReadList, STAND_IN};
+use crate::tokens::{ReadList, STAND_IN, read_tokens};
 use crate::tree::{Tree, check_limits};
-use input::{Pair, RuleTree, Side, TemplateTree};
+use input::{File, Pair, RuleSide, Side, TemplateTree};
 use std::collections::BTreeMap;
 
 const PATH: u32 = 2;
@@ -55,30 +55,41 @@ fn read_side(
     let mut lowest = Lowest::default();
     let mut trees = [const { None }; 5];
     for (form, tree) in side.trees.iter().enumerate() {
-        let result = read_tree(tree, &side.code, wanted.as_deref(), place, fact_text);
+        let (words, facts) = (&tree.words, &tree.facts);
+        let result = read_tree(words, &side.code, wanted.as_deref(), facts, place, fact_text);
         trees[form] = lowest.keep(result).flatten();
     }
     lowest.end().map(|()| trees)
 }
 
+/// Checks a rule's tree that is handed in by itself, after its list: 1 to 13, 18 to 21.
+pub fn check_rule_tree(tree: &File, beside: &RuleSide) -> Result<(), u32> {
+    let list = (beside.given != 0).then(|| read_tokens(&beside.list)).transpose()?;
+    let wanted = list.as_ref().map(ReadList::trimmed_code);
+    let place = if beside.side == 0 { Place::Pattern } else { Place::Template };
+    let fact_text = Some(beside.fact_text.len());
+    read_tree(&tree.tree, &tree.text, wanted.as_deref(), &tree.facts, place, fact_text).map(drop)
+}
+
 fn read_tree(
-    tree: &RuleTree,
+    words: &[u32],
     code: &[u8],
     wanted: Option<&[u8]>,
+    facts: &[u32],
     place: Place,
     fact_text: Option<usize>,
 ) -> Result<Checked, u32> {
     let mut found = None;
-    if !tree.words.is_empty() {
+    if !words.is_empty() {
         // Without its list no text is the right one.
         if wanted.is_none() {
-            check_limits(&tree.words, code)?;
+            check_limits(words, code)?;
             return Err(19);
         }
-        found = Some(Tree::read(&tree.words, code, wanted)?);
+        found = Some(Tree::read(words, code, wanted)?);
     }
     let facts = match fact_text {
-        Some(length) => Facts::read(&tree.facts, found.as_ref(), place, length)?,
+        Some(length) => Facts::read(facts, found.as_ref(), place, length)?,
         None => Facts::default(),
     };
     Ok(found.map(|tree| (tree, facts)))

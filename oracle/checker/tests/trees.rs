@@ -5,7 +5,7 @@ mod common;
 use common::{check_job, job_on};
 use input::build::{element_word, fact, node, token};
 use input::words::{END, START, word};
-use input::{File, Parses};
+use input::{File, Parses, RuleSide, TokenList, TreeCheck};
 
 /// Word kind, kind, size, start and end of an element.
 type Element = (u32, u32, u32, u32, u32);
@@ -175,6 +175,75 @@ fn number_of_facts() {
     };
     assert_eq!(steps(16_383), Ok(()));
     assert_eq!(steps(16_384), Err(21));
+}
+
+/// `$a ` with the tree of `__placeholder_a`, a PATH.
+fn placeholder_tree() -> (File, RuleSide) {
+    let root = node(2, [token(1, "__placeholder_a")]);
+    let tree = File { tree: root.words(), text: root.text(), facts: vec![] };
+    (tree, RuleSide { given: 1, list: common::lex("$a "), ..RuleSide::default() })
+}
+
+fn check_rule_tree(change: impl FnOnce(&mut File, &mut RuleSide)) -> u32 {
+    let (mut tree, mut rule) = placeholder_tree();
+    change(&mut tree, &mut rule);
+    checker::check_tree(&TreeCheck { tree, rule: Some(rule) })
+}
+
+#[test]
+fn rule_trees_by_themselves() {
+    assert_eq!(check_rule_tree(|_, _| ()), 0);
+    assert_eq!(check_rule_tree(|_, rule| rule.given = 2), 0);
+    // Its list comes first, also where the tree is absent or too large.
+    assert_eq!(check_rule_tree(|_, rule| rule.list = common::lex("${a")), 3);
+    let refused = |tree: &mut File, rule: &mut RuleSide, words| {
+        tree.tree = words;
+        rule.list = TokenList { words: vec![0], text: vec![] };
+    };
+    assert_eq!(check_rule_tree(|tree, rule| refused(tree, rule, vec![])), 1);
+    assert_eq!(check_rule_tree(|tree, rule| refused(tree, rule, vec![0; 49_152])), 1);
+    assert_eq!(check_rule_tree(|tree, _| tree.text.push(b' ')), 19);
+    assert_eq!(check_rule_tree(|_, rule| rule.list = common::lex("$b")), 19);
+}
+
+#[test]
+fn rule_trees_without_a_list_or_absent() {
+    assert_eq!(check_rule_tree(|_, rule| rule.given = 0), 19);
+    let large = |tree: &mut File, rule: &mut RuleSide| {
+        tree.tree = vec![0; 49_152];
+        rule.given = 0;
+    };
+    assert_eq!(check_rule_tree(large), 18);
+    let absent = |given, facts: &[u32]| {
+        check_rule_tree(|tree, rule| {
+            *tree = File { text: vec![0; 70_000], facts: facts.to_vec(), ..File::default() };
+            rule.given = given;
+        })
+    };
+    for given in [0, 1] {
+        assert_eq!(absent(given, &[]), 0);
+        assert_eq!(absent(given, &fact(1, 0, [1, 1, 0])), 21);
+    }
+}
+
+#[test]
+fn facts_of_rule_trees() {
+    let facts = |side, facts: &[u32]| {
+        check_rule_tree(|tree, rule| {
+            tree.facts = facts.to_vec();
+            rule.side = side;
+            rule.fact_text = b"abc".to_vec();
+        })
+    };
+    let (path, kind) = (fact(1, 0, [1, 7, 0]), fact(4, 0, [1, 0, 0]));
+    let text = |start, length| fact(7, 0, [1, start, length]);
+    assert_eq!((facts(0, &path), facts(1, &path)), (0, 0));
+    assert_eq!((facts(0, &kind), facts(1, &kind)), (0, 21));
+    assert_eq!((facts(0, &text(0, 3)), facts(1, &text(0, 3))), (21, 0));
+    assert_eq!((facts(1, &text(3, 0)), facts(u32::MAX, &text(1, 3))), (0, 21));
+    assert_eq!(facts(1, &[text(0, 3), fact(7, 0, [2, 0, 3])].concat()), 0);
+    assert_eq!(facts(1, &[text(0, 3), text(1, 2)].concat()), 21);
+    assert_eq!((facts(0, &fact(1, 0, [1, 8, 0])), facts(0, &fact(1, 1, [1, 7, 0]))), (21, 21));
 }
 
 #[test]

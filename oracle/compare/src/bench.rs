@@ -24,13 +24,12 @@ struct Times {
     tokens: Duration,
 }
 
-pub fn run() -> bool {
+pub fn run() {
     let lists: Vec<TokenList> = lists().filter(|list| ssr::hand_in(list).is_ok()).collect();
     let (read, refused): (Vec<_>, Vec<_>) =
         lists.iter().partition(|list| library::read_tokens(list).refusal == 0);
     report("read", &read);
     report("refused", &refused);
-    true
 }
 
 /// The lists of the first cases that reading does not find malformed.

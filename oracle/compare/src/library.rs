@@ -1,6 +1,6 @@
 //! The Rattle library's functions (include/ssr.h), and safe calls of them.
 
-use input::{Answer, Outcome, TokenList};
+use input::{Answer, File, Outcome, RuleSide, TokenList, TreeCheck};
 
 /// A placeholder of an answer: the bytes of its name in the list's text, and how many constraints
 /// it has.
@@ -60,6 +60,30 @@ mod exported {
             out: *mut u8,
             out_length: usize,
         ) -> RawCode;
+        pub fn ssr_check_file(
+            tree: *const u32,
+            tree_length: usize,
+            text: *const u8,
+            text_length: usize,
+            facts: *const u32,
+            facts_length: usize,
+        ) -> u32;
+        pub fn ssr_check_rule_tree(
+            given: u32,
+            list: *const u32,
+            list_length: usize,
+            list_text: *const u8,
+            list_text_length: usize,
+            side: u32,
+            tree: *const u32,
+            tree_length: usize,
+            code: *const u8,
+            code_length: usize,
+            facts: *const u32,
+            facts_length: usize,
+            fact_text: *const u8,
+            fact_text_length: usize,
+        ) -> u32;
     }
 }
 
@@ -108,6 +132,53 @@ pub fn raw_code(list: &TokenList, buffer: usize) -> (RawCode, Vec<u8>) {
         )
     };
     (answer, out)
+}
+
+/// The number of a tree with its facts, 0 where nothing refuses.
+pub fn check_tree(check: &TreeCheck) -> u32 {
+    match &check.rule {
+        None => check_file(&check.tree),
+        Some(rule) => check_rule_tree(&check.tree, rule),
+    }
+}
+
+pub fn check_file(file: &File) -> u32 {
+    let File { tree, text, facts } = file;
+    // SAFETY: all pointers are to as many elements as are said, which outlive the call.
+    unsafe {
+        exported::ssr_check_file(
+            tree.as_ptr(),
+            tree.len(),
+            text.as_ptr(),
+            text.len(),
+            facts.as_ptr(),
+            facts.len(),
+        )
+    }
+}
+
+fn check_rule_tree(file: &File, rule: &RuleSide) -> u32 {
+    let File { tree, text, facts } = file;
+    let RuleSide { given, list, side, fact_text } = rule;
+    // SAFETY: all pointers are to as many elements as are said, which outlive the call.
+    unsafe {
+        exported::ssr_check_rule_tree(
+            *given,
+            list.words.as_ptr(),
+            list.words.len(),
+            list.text.as_ptr(),
+            list.text.len(),
+            *side,
+            tree.as_ptr(),
+            tree.len(),
+            text.as_ptr(),
+            text.len(),
+            facts.as_ptr(),
+            facts.len(),
+            fact_text.as_ptr(),
+            fact_text.len(),
+        )
+    }
 }
 
 /// A judged outcome of writing raw code, as the library has to give and leave it.

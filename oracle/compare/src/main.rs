@@ -4,19 +4,27 @@
 mod bench;
 mod comparison;
 mod library;
+mod plain;
 mod sample;
+mod small_stack;
+mod tree_bench;
+mod tree_sample;
+mod trees;
 
 use std::io::{BufRead, Write, stdin, stdout};
 use std::process::ExitCode;
 
 use comparison::Summary;
-use corpus::{case, json};
+use corpus::case::{Case, read_case};
+use corpus::json;
 use generator::Class;
 use generator::arguments::number;
 use input::{Operation, Pair, TokenList, used};
 
 const USAGE: &str = "usage: compare corpus < CASES
        compare generated SEED COUNT
+       compare trees corpus < CASES
+       compare trees damaged SEED COUNT
        compare bench
        compare sample SEED COUNT";
 
@@ -29,9 +37,14 @@ fn main() -> ExitCode {
 
 fn run(arguments: &[&str]) -> Result<bool, String> {
     match arguments {
-        ["corpus"] => corpus_lists(stdin().lock()),
+        ["corpus"] => corpus_lists(),
         ["generated", seed, count] => Ok(generated(number(seed)?, number(count)?)),
-        ["bench"] => Ok(bench::run()),
+        ["trees", "corpus"] => trees::corpus(),
+        ["trees", "damaged", seed, count] => trees::damaged(number(seed)?, number(count)?),
+        ["bench"] => {
+            bench::run();
+            Ok(tree_bench::run())
+        }
         ["sample", seed, count] => {
             let sample = sample::make(number(seed)?, number(count)? as usize)?;
             stdout().write_all(&sample).map_err(|error| error.to_string())?;
@@ -41,17 +54,24 @@ fn run(arguments: &[&str]) -> Result<bool, String> {
     }
 }
 
-/// The pairs of the cases, with their lists.
-fn corpus_lists(lines: impl BufRead) -> Result<bool, String> {
-    let mut summary = Summary::default();
-    for (number, line) in (1..).zip(lines.lines()) {
+/// Does something with each case of a corpus, which comes on standard input.
+fn for_each_case(mut work: impl FnMut(Case)) -> Result<(), String> {
+    for (number, line) in (1..).zip(stdin().lock().lines()) {
         let error = |error: String| format!("line {number}: {error}");
         let line = line.map_err(|failure| error(failure.to_string()))?;
-        let case = json::read(&line).and_then(|value| case::read_case(&value)).map_err(error)?;
+        work(json::read(&line).and_then(|value| read_case(&value)).map_err(error)?);
+    }
+    Ok(())
+}
+
+/// The pairs of the cases, with their lists.
+fn corpus_lists() -> Result<bool, String> {
+    let mut summary = Summary::default();
+    for_each_case(|case| {
         for (pair, number) in case.pairs.into_iter().zip(1..) {
             summary.add(|| format!("{}, pair {number}", case.id), check_pair(pair));
         }
-    }
+    })?;
     Ok(summary.print())
 }
 

@@ -9,6 +9,7 @@ use judge::judge;
 
 use crate::comparison::with_lists;
 use crate::library::{ReadTokens, judged_pair, judged_raw_code};
+use crate::tree_sample;
 
 /// The number of an operation in a record: document 01's order.
 const READ_TOKENS: u32 = 1;
@@ -40,6 +41,7 @@ pub fn make(seed: u64, count: usize) -> Result<Vec<u8>, String> {
         let length = ssr::raw_code(list).map_or(0, |code| code.len());
         sample.extend(raw_code(list, (length + spare).saturating_sub(1))?);
     }
+    sample.extend(tree_sample::make(seed));
     Ok(sample)
 }
 
@@ -71,11 +73,15 @@ fn raw_code(list: &TokenList, buffer: usize) -> Result<Vec<u8>, String> {
 }
 
 fn list_words(list: &TokenList) -> Vec<u8> {
-    bytes(list.words.iter().copied())
+    words(&list.words)
+}
+
+pub fn words(words: &[u32]) -> Vec<u8> {
+    bytes(words.iter().copied())
 }
 
 /// A record: its length, then the operation's number and the parts, the expected answer last.
-fn record(operation: u32, parts: &[&[u8]]) -> Vec<u8> {
+pub fn record(operation: u32, parts: &[&[u8]]) -> Vec<u8> {
     let mut body = operation.to_le_bytes().to_vec();
     for part in parts {
         body.extend((part.len() as u32).to_le_bytes());
@@ -86,12 +92,12 @@ fn record(operation: u32, parts: &[&[u8]]) -> Vec<u8> {
     record
 }
 
-fn bytes(words: impl IntoIterator<Item = u32>) -> Vec<u8> {
+pub fn bytes(words: impl IntoIterator<Item = u32>) -> Vec<u8> {
     words.into_iter().flat_map(u32::to_le_bytes).collect()
 }
 
 /// An answer's bytes up to the last that is not 0.
-fn trimmed(mut answer: Vec<u8>) -> Vec<u8> {
+pub fn trimmed(mut answer: Vec<u8>) -> Vec<u8> {
     let end = answer.iter().rposition(|byte| *byte != 0).map_or(0, |at| at + 1);
     answer.truncate(end);
     answer

@@ -2,6 +2,7 @@
 //! three always give the same case.
 
 pub mod arguments;
+pub mod bent_trees;
 mod damage;
 mod derive;
 mod facts;
@@ -16,13 +17,15 @@ mod parts;
 mod rng;
 mod tiny;
 mod tokens;
+pub mod tree_limits;
+pub mod trees;
 mod world;
 
 pub use jobs::awkward_buffers;
 pub use parse::complete;
+pub use rng::Rng;
 
 use input::Operation;
-use rng::Rng;
 use tiny::Family;
 
 /// A class of cases.

@@ -118,22 +118,22 @@ fn job_on(file: File) -> Operation {
     Operation::Job(Job { file, ..Job::default() })
 }
 
-fn plain_file(root: &Syntax) -> File {
+pub fn plain_file(root: &Syntax) -> File {
     File { tree: root.words(), text: root.text(), facts: Vec::new() }
 }
 
-fn wide(elements: usize) -> File {
+pub fn wide(elements: usize) -> File {
     plain_file(&node(SOURCE_FILE, vec![node(EXPR_STMT, []); elements - 1]))
 }
 
 /// The largest tree and some stray words.
-fn ragged(words: usize) -> File {
+pub fn ragged(words: usize) -> File {
     let mut file = wide(16_383);
     file.tree.extend(vec![0; words]);
     file
 }
 
-fn long(bytes: usize) -> File {
+pub fn long(bytes: usize) -> File {
     plain_file(&node(SOURCE_FILE, [token(STRING, vec![b'x'; bytes])]))
 }
 
@@ -143,11 +143,11 @@ pub fn deep_tree(depth: usize) -> Syntax {
 }
 
 /// A line of nodes with a token at a depth.
-fn deep_token(depth: usize) -> Syntax {
+pub fn deep_token(depth: usize) -> Syntax {
     (2..depth).fold(node(EXPR_STMT, [ident("x")]), |tree, _| node(EXPR_STMT, [tree]))
 }
 
-fn with_facts(count: u32) -> File {
+pub fn with_facts(count: u32) -> File {
     let mut file = plain_file(&node(LITERAL, [token(NUMBER, "1")]));
     file.facts = (0..count).flat_map(|step| fact(3, 0, [step, 9, 0])).collect();
     file

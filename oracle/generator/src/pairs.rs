@@ -9,7 +9,7 @@ use crate::rng::Rng;
 use input::build::{Syntax, node, token, token_list};
 use input::{Pair, Side, TokenList};
 
-const NAMES: [&str; 8] = ["a", "b", "ab", "kind", "x", "__placeholder_a", "s", "literal"];
+pub const NAMES: [&str; 8] = ["a", "b", "ab", "kind", "x", "__placeholder_a", "s", "literal"];
 
 /// Random pairs, and the patterns that code is derived from.
 pub struct Draft {
@@ -75,7 +75,7 @@ fn sprinkle_all(rng: &mut Rng, tree: &mut Syntax) {
 }
 
 /// The placeholders whose stand-in names occur as IDENT tokens.
-fn names_in(tree: &Syntax) -> Vec<&'static str> {
+pub fn names_in(tree: &Syntax) -> Vec<&'static str> {
     let tokens = tree.tokens();
     let occurs = |name: &&str| {
         let text = [STAND_IN, name.as_bytes()].concat();
@@ -85,7 +85,7 @@ fn names_in(tree: &Syntax) -> Vec<&'static str> {
 }
 
 fn pattern_side(rng: &mut Rng, pattern: &Syntax, names: &[&str]) -> Side {
-    let list = list_of(rng, pattern, names, 12);
+    let list = list_of(rng, &pattern.tokens(), names, 12);
     let mut side = Side { list, code: pattern.text(), ..Side::default() };
     for (form, tree) in forms(rng, pattern, 95).into_iter().enumerate() {
         if let Some(tree) = tree {
@@ -113,7 +113,7 @@ fn template_side(rng: &mut Rng, names: &[&str], fact_text: &mut Vec<u8>) -> Side
         declared.push("q");
     }
     let constraints = usize::from(rng.one_in(200)) * 50;
-    let list = list_of(rng, &tree, &declared, constraints);
+    let list = list_of(rng, &tree.tokens(), &declared, constraints);
     let mut side = Side { list, code: tree.text(), ..Side::default() };
     let trees =
         if statement { [None, None, None, None, Some(tree)] } else { forms(rng, &tree, 90) };
@@ -154,10 +154,14 @@ fn forms(rng: &mut Rng, tree: &Syntax, percent: usize) -> [Option<Syntax>; 5] {
     forms
 }
 
-/// The list that a tree's text is the raw code of: each name is declared at one of its places
-/// and written out at the others.
-fn list_of(rng: &mut Rng, tree: &Syntax, names: &[&str], constrained: usize) -> TokenList {
-    let tokens = tree.tokens();
+/// The list whose raw code is the text of a tree's tokens: each name is declared at one of its
+/// places and written out at the others.
+pub fn list_of(
+    rng: &mut Rng,
+    tokens: &[(u32, &[u8])],
+    names: &[&str],
+    constrained: usize,
+) -> TokenList {
     let mut declared = vec![None; tokens.len()];
     for name in names {
         let text = [STAND_IN, name.as_bytes()].concat();
@@ -168,7 +172,7 @@ fn list_of(rng: &mut Rng, tree: &Syntax, names: &[&str], constrained: usize) -> 
         }
     }
     let mut list: Vec<(u32, Vec<u8>)> = Vec::new();
-    for ((kind, text), name) in tokens.into_iter().zip(declared) {
+    for (&(kind, text), name) in tokens.iter().zip(declared) {
         match name {
             Some(name) => list.extend(placeholder(rng, name, constrained)),
             None if kind == COLON2 && rng.chance(50) => {

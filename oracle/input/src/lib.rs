@@ -27,6 +27,25 @@ pub struct File {
     pub facts: Vec<u32>,
 }
 
+/// A tree with its facts that is checked by itself: the file's or, with what a rule's tree has
+/// beside it, a rule's. The text of a rule's tree is its code.
+#[derive(Clone, Debug, Default, PartialEq, Eq)]
+pub struct TreeCheck {
+    pub tree: File,
+    pub rule: Option<RuleSide>,
+}
+
+/// What a rule's tree has beside it.
+#[derive(Clone, Debug, Default, PartialEq, Eq)]
+pub struct RuleSide {
+    /// 0 where the side has no list, which is not looked at then.
+    pub given: u32,
+    pub list: TokenList,
+    /// 0 for the pattern's, else the template's.
+    pub side: u32,
+    pub fact_text: Vec<u8>,
+}
+
 /// The parses handed in, over one parse text.
 #[derive(Clone, Debug, Default, PartialEq, Eq)]
 pub struct Parses {
