@@ -85,7 +85,7 @@ ssr_raw_code_answer ssr_raw_code(const uint32_t *words, size_t words_length,
  *   19  malformed
  *   20  an element deeper than 128, the root being at 1
  *   21  facts malformed, over 16,383, or one repeated
- * in this order. The stack that it uses does not depend on the depth; it is below 600 KB.
+ * in this order. It uses less than 300 KB of stack, whatever the depth of the tree.
  */
 uint32_t ssr_check_file(const uint32_t *tree, size_t tree_length,
                         const uint8_t *text, size_t text_length,
