@@ -1,4 +1,5 @@
-/* The C ABI of structural search and replace: one function for each operation of document 01.
+/* The C ABI of structural search and replace: one function for each operation of document 01, and two that check
+ * a tree with its facts by itself.
  *
  * A slice is handed over as two arguments, a pointer to its first element and its number of elements.
  * The pointer of an empty slice is not read, and must not be null. Nothing is kept after a call, nothing

@@ -1,4 +1,5 @@
-// The C ABI: one exported function for each operation of document 01, thin. include/ssr.h declares them.
+// The C ABI: one exported function for each operation of document 01, and two that check a tree with its facts by itself, all thin.
+// include/ssr.h declares them.
 use facts::Owner;
 use parsing::patterns;
 use parsing::patterns::Placeholder;

@@ -11,27 +11,26 @@ use lib.Seq.{drop-drop}
 use lib.Dec.{eqb, leb}
 use borrow.Author.Tests.{eq-eqb, ne-eqb, eqb-false, leb-true, leb-false}
 use Rattle.words.proofs.TestLaws.{low-or}
-use Rattle.words.specs.Fields.{isToken, sizeOf}
+use Rattle.words.specs.Fields.{wordOf, isToken, sizeOf}
 use Rattle.syntax.specs.declared.accessors.Standing.{Standing}
 use Rattle.syntax.specs.Parts.{span}
-use Rattle.syntax.specs.Trees.{Elems, none, token, node, size, Numbered, words, wordOf, elementWord, tree}
+use Rattle.syntax.specs.Trees.{Elems, none, token, node, size, Numbered, words, elementWord, tree}
 use Rattle.syntax.specs.Accessors.{below, ancestors, lastButOne, depthOf, parentOf, standing}
 use Rattle.syntax.specs.Checks.{WellFormed}
 use Rattle.syntax.proofs.PartLaws.{span-token, span-node}
 use Rattle.syntax.proofs.Bridge.{length-words, Built}
 use Rattle.syntax.proofs.Exactly.{tree-built}
-use Rattle.syntax.proofs.Places.{Good, NodeLooks, looks-token, looks-node, behind-token, behind-node, good-rest-token, good-rest-node, good-children, tree-good, tree-size}
+use Rattle.syntax.proofs.Places.{Away, away, Good, NodeLooks, looks-token, looks-node, behind-token, behind-node, good-rest-token, good-rest-node, good-children, tree-good, tree-size}
 
 -- numbers before and behind a sequence have no ancestors in it, the others have
+no-ancestors : (c : Elems) (n : ℕ) → Away n c → ancestors n c ≡ []
+unfolding ancestors
+no-ancestors none n a = refl
+no-ancestors (token i k s e r) n a = rw (ne-eqb i n (a .0)) (no-ancestors r n (a .1))
+no-ancestors (node i k s e cs r) n a = rw (ne-eqb i n (a .0), no-ancestors cs n (a .1)) (no-ancestors r n (a .2))
+
 outside : (c : Elems) (i n : ℕ) → Numbered i c → (n < i) ⊎ (i + size c ≤ n) → ancestors n c ≡ []
-unfolding ancestors size
-outside none i n w h = refl
-outside (token j k s e r) i n w h =
-    let ne : j ≡ n → ⊥ = λ q. ⊎-elim (λ a. omega (arith, w .0)) (λ a. omega (arith, w .0)) h in
-    rw (ne-eqb j n ne) (outside r (i + 1) n (w .1) (⊎-elim (λ a. inl (omega arith)) (λ a. inr (omega arith)) h))
-outside (node j k s e cs r) i n w h =
-    let ne : j ≡ n → ⊥ = λ q. ⊎-elim (λ a. omega (arith, w .0)) (λ a. omega (arith, w .0)) h in
-    rw (ne-eqb j n ne, outside cs (i + 1) n (w .1) (⊎-elim (λ a. inl (omega arith)) (λ a. inr (omega arith)) h)) (outside r (i + (1 + size cs)) n (w .2) (⊎-elim (λ a. inl (omega arith)) (λ a. inr (omega arith)) h))
+outside c i n w h = no-ancestors c n (away c i n w h)
 
 below-some : (i : ℕ) (l other : List ℕ) → 0 < length l → below i l other ≡ i ∷ l
 below-some i [] other h = absurd (omega arith)
@@ -97,15 +96,36 @@ reach-start l n w h =
     let ts = tree-size l w in
     record { seq = tree l; good = tree-good l w; more = []; stands = sym (append-nil (words (tree l)) ∙ b .are); low = omega arith; high = omega arith; passed = []; counts = refl; parents = refl; are = refl }
 
+-- what stands there: the first of a sequence, with m elements
+record Here (l : List ℕ) (at : ℕ) (c : Elems) (more : List ℕ) (m : ℕ) : Type 0 where
+  good : Good at c
+  parts : drop (at * 3) l ≡ words c ++ more
+  spans : span (drop (at * 3) l) ≡ m
+
 module _ (l : List ℕ) (n depth parent at : ℕ) (lt : at < n) where
+  here-token : (j k s e : ℕ) (x : Elems) (r : Reached l n depth parent at) → r .seq ≡ token j k s e x → Here l at (token j k s e x) (r .more) 1
+  here-token j k s e x r q =
+      let g : Good at (token j k s e x) = subst (λ (y : Elems). Good at y) q (r .good) in
+      let g′ : Good j (token j k s e x) = subst (λ (i : ℕ). Good i (token j k s e x)) (sym (g .numbered .0)) g in
+      let p : drop (at * 3) l ≡ words (token j k s e x) ++ r .more = r .stands ∙ ap (λ (y : Elems). words y ++ r .more) q in
+      record { good = g; parts = p; spans = ap span p ∙ span-token (words (token j k s e x) ++ r .more) (looks-token n j k s e x (r .more) g′ .0) }
+
+  here-node : (j k s e : ℕ) (cs x : Elems) (r : Reached l n depth parent at) → r .seq ≡ node j k s e cs x → Here l at (node j k s e cs x) (r .more) (1 + size cs)
+  here-node j k s e cs x r q =
+      let g : Good at (node j k s e cs x) = subst (λ (y : Elems). Good at y) q (r .good) in
+      let g′ : Good j (node j k s e cs x) = subst (λ (i : ℕ). Good i (node j k s e cs x)) (sym (g .numbered .0)) g in
+      let p : drop (at * 3) l ≡ words (node j k s e cs x) ++ r .more = r .stands ∙ ap (λ (y : Elems). words y ++ r .more) q in
+      let lk = looks-node j k s e cs x (r .more) g′ in
+      record { good = g; parts = p; spans = ap span p ∙ span-node (words (node j k s e cs x) ++ r .more) (lk .not) (omega (arith, lk .sized)) ∙ lk .sized }
+
   next-of : (seq : Elems) (r : Reached l n depth parent at) → r .seq ≡ seq → at + span (drop (at * 3) l) ≤ n → Reached l n depth parent (at + span (drop (at * 3) l))
   unfolding ancestors words size
   next-of none r q h = absurd (omega (arith, r .high, ap size q))
   next-of (token j k s e x) r q h =
-      let g : Good at (token j k s e x) = subst (λ (y : Elems). Good at y) q (r .good) in
-      let g′ : Good j (token j k s e x) = subst (λ (i : ℕ). Good i (token j k s e x)) (sym (g .numbered .0)) g in
-      let p : drop (at * 3) l ≡ words (token j k s e x) ++ r .more = r .stands ∙ ap (λ (y : Elems). words y ++ r .more) q in
-      let sp : span (drop (at * 3) l) ≡ 1 = ap span p ∙ span-token (words (token j k s e x) ++ r .more) (looks-token n j k s e x (r .more) g′ .0) in
+      let f = here-token j k s e x r q in
+      let g = f .good in
+      let p = f .parts in
+      let sp = f .spans in
       let a3 : at * 3 + 3 ≡ (at + 1) * 3 = omega arith in
       let d : drop ((at + 1) * 3) l ≡ words x ++ r .more = ap (λ (i : ℕ). drop i l) (sym a3) ∙ sym (drop-drop 3 (at * 3) l) ∙ ap (drop 3) p in
       let ne : j ≡ n → ⊥ = λ z. omega (arith, g .numbered .0) in
@@ -122,11 +142,10 @@ module _ (l : List ℕ) (n depth parent at : ℕ) (lt : at < n) where
         are = r .are ∙ ap (λ (y : Elems). r .passed ++ ancestors n y) q ∙ rw (ne-eqb j n ne);
       })
   next-of (node j k s e cs x) r q h =
-      let g : Good at (node j k s e cs x) = subst (λ (y : Elems). Good at y) q (r .good) in
-      let g′ : Good j (node j k s e cs x) = subst (λ (i : ℕ). Good i (node j k s e cs x)) (sym (g .numbered .0)) g in
-      let p : drop (at * 3) l ≡ words (node j k s e cs x) ++ r .more = r .stands ∙ ap (λ (y : Elems). words y ++ r .more) q in
-      let lk = looks-node j k s e cs x (r .more) g′ in
-      let sp : span (drop (at * 3) l) ≡ 1 + size cs = ap span p ∙ span-node (words (node j k s e cs x) ++ r .more) (lk .not) (omega (arith, lk .sized)) ∙ lk .sized in
+      let f = here-node j k s e cs x r q in
+      let g = f .good in
+      let p = f .parts in
+      let sp = f .spans in
       let a3 : at * 3 + (1 + size cs) * 3 ≡ (at + (1 + size cs)) * 3 = omega arith in
       let b3 : (at + (1 + size cs) - at) * 3 ≡ (1 + size cs) * 3 = omega arith in
       let c3 : (at + (1 + size cs) - (at + (1 + size cs))) * 3 ≡ 0 = omega arith in
@@ -155,17 +174,12 @@ module _ (l : List ℕ) (n depth parent at : ℕ) (lt : at < n) where
   unfolding ancestors words size lastOr
   below-of none r q h = absurd (omega (arith, r .high, ap size q))
   below-of (token j k s e x) r q h =
-      let g : Good at (token j k s e x) = subst (λ (y : Elems). Good at y) q (r .good) in
-      let g′ : Good j (token j k s e x) = subst (λ (i : ℕ). Good i (token j k s e x)) (sym (g .numbered .0)) g in
-      let p : drop (at * 3) l ≡ words (token j k s e x) ++ r .more = r .stands ∙ ap (λ (y : Elems). words y ++ r .more) q in
-      let sp : span (drop (at * 3) l) ≡ 1 = ap span p ∙ span-token (words (token j k s e x) ++ r .more) (looks-token n j k s e x (r .more) g′ .0) in
-      absurd (omega (arith, sp))
+      absurd (omega (arith, here-token j k s e x r q .spans))
   below-of (node j k s e cs x) r q h =
-      let g : Good at (node j k s e cs x) = subst (λ (y : Elems). Good at y) q (r .good) in
-      let g′ : Good j (node j k s e cs x) = subst (λ (i : ℕ). Good i (node j k s e cs x)) (sym (g .numbered .0)) g in
-      let p : drop (at * 3) l ≡ words (node j k s e cs x) ++ r .more = r .stands ∙ ap (λ (y : Elems). words y ++ r .more) q in
-      let lk = looks-node j k s e cs x (r .more) g′ in
-      let sp : span (drop (at * 3) l) ≡ 1 + size cs = ap span p ∙ span-node (words (node j k s e cs x) ++ r .more) (lk .not) (omega (arith, lk .sized)) ∙ lk .sized in
+      let f = here-node j k s e cs x r q in
+      let g = f .good in
+      let p = f .parts in
+      let sp = f .spans in
       let a3 : at * 3 + 3 ≡ (at + 1) * 3 = omega arith in
       let ne : j ≡ n → ⊥ = λ z. omega (arith, g .numbered .0) in
       let ch = good-children at j k s e cs x g in

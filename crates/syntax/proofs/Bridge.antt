@@ -12,9 +12,9 @@ use lib.Seq.{take-append-le}
 use lib.Dec.{eqb, leb, ltb}
 use borrow.Author.Tests.{eqb-true, leb-true, ltb-true, eq-eqb, le-leb}
 use Rattle.words.proofs.TestLaws.{and-both, and-of}
-use Rattle.words.specs.Fields.{kindAt, isNode, isToken, syntaxKind, sizeOf, startOf, endOf}
+use Rattle.words.specs.Fields.{wordOf, kindAt, isNode, isToken, syntaxKind, sizeOf, startOf, endOf}
 use Rattle.syntax.specs.Parts.{span, childWords, restWords}
-use Rattle.syntax.specs.Trees.{Elems, none, token, node, size, Numbered, words, wordOf, elementWord, elems, isTokenKind, isNodeKind, tiles, formed}
+use Rattle.syntax.specs.Trees.{Elems, none, token, node, size, Numbered, words, elementWord, elems, isTokenKind, isNodeKind, tiles, formed}
 use Rattle.syntax.specs.Rows.{inRow, isRanged, isTokenPart, isNodeHead, isNodePart, isElement, every}
 use Rattle.syntax.proofs.PartLaws.{span-pos, span-token, span-node, rest-shorter, children-shorter}
 use Rattle.syntax.proofs.TreeLaws.{elems-end, elems-token, elems-node}

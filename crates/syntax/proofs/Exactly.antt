@@ -11,11 +11,11 @@ use lib.ListN.{length, drop, drop-of-length-le}
 use lib.Dec.{eqb, leb}
 use borrow.Author.Tests.{eqb-true, eq-eqb, ne-eqb, le-leb}
 use Rattle.words.proofs.TestLaws.{and-both, and-of, both-ways}
-use Rattle.words.specs.Fields.{kindAt, isNode, isToken, syntaxKind, sizeOf, startOf, endOf}
+use Rattle.words.specs.Fields.{wordOf, kindAt, isNode, isToken, syntaxKind, sizeOf, startOf, endOf}
 use Rattle.words.specs.Texts.{sameText}
 use Rattle.words.proofs.TextLaws.{same-equal, equal-same}
 use Rattle.syntax.specs.Parts.{span, childWords, restWords}
-use Rattle.syntax.specs.Trees.{Elems, none, token, node, size, words, wordOf, elementWord, elems, tree, tiles, formed, covers, isTree}
+use Rattle.syntax.specs.Trees.{Elems, none, token, node, size, words, elementWord, elems, tree, tiles, formed, covers, isTree}
 use Rattle.syntax.specs.Rows.{inRow, isElement, every, isRoot}
 use Rattle.syntax.proofs.PartLaws.{span-node}
 use Rattle.syntax.proofs.TreeLaws.{elems-end, elems-node}

@@ -10,8 +10,8 @@ use lib.ListN.{length, drop, length-append, length-drop, drop-of-length-le}
 use lib.Seq.{drop-append-add, drop-drop}
 use lib.Dec.{eqb, leb, ltb}
 use borrow.Author.Tests.{eqb-true, eqb-false, eq-eqb, ne-eqb, leb-true, leb-false, ltb-false}
-use Rattle.words.specs.Fields.{isNode, isToken, syntaxKind, sizeOf}
-use Rattle.syntax.specs.Trees.{Elems, none, token, node, size, Numbered, words, wordOf, elementWord, elems, tree, tiles, formed}
+use Rattle.words.specs.Fields.{wordOf, isNode, isToken, syntaxKind, sizeOf}
+use Rattle.syntax.specs.Trees.{Elems, none, token, node, size, Numbered, words, elementWord, elems, tree, tiles, formed}
 use Rattle.syntax.specs.Accessors.{children, elementAt, orElse, nodeIn, tokenIn}
 use Rattle.syntax.specs.Checks.{WellFormed}
 use Rattle.syntax.proofs.Bridge.{length-words, Built}
@@ -29,16 +29,34 @@ pub record Good (i : ℕ) (c : Elems) : Type 0 where
   pub few : size c < 65536
   pub numbered : Numbered i c
 
+-- no element of a sequence has the number n
+abbrev pub Away : ℕ → Elems → Type 0
+Away n none = Unit {0}
+Away n (token i k s e r) = (i ≡ n → ⊥) × Away n r
+Away n (node i k s e cs r) = (i ≡ n → ⊥) × Away n cs × Away n r
+
 -- numbers before and behind a sequence are none of its elements'
-pub outside : (c : Elems) (i n : ℕ) → Numbered i c → (n < i) ⊎ (i + size c ≤ n) → elementAt n c ≡ none
-unfolding elementAt orElse size
-outside none i n w h = refl
-outside (token j k s e r) i n w h =
-    let ne : j ≡ n → ⊥ = λ q. ⊎-elim (λ a. omega (arith, w .0)) (λ a. omega (arith, w .0)) h in
-    rw (ne-eqb j n ne) (outside r (i + 1) n (w .1) (⊎-elim (λ a. inl (omega arith)) (λ a. inr (omega arith)) h))
-outside (node j k s e cs r) i n w h =
-    let ne : j ≡ n → ⊥ = λ q. ⊎-elim (λ a. omega (arith, w .0)) (λ a. omega (arith, w .0)) h in
-    rw (ne-eqb j n ne, outside cs (i + 1) n (w .1) (⊎-elim (λ a. inl (omega arith)) (λ a. inr (omega arith)) h)) (outside r (i + (1 + size cs)) n (w .2) (⊎-elim (λ a. inl (omega arith)) (λ a. inr (omega arith)) h))
+pub away : (c : Elems) (i n : ℕ) → Numbered i c → (n < i) ⊎ (i + size c ≤ n) → Away n c
+unfolding size
+away none i n w h = tt
+away (token j k s e r) i n w h = (
+  λ q. ⊎-elim (λ a. omega (arith, w .0)) (λ a. omega (arith, w .0)) h,
+  away r (i + 1) n (w .1) (⊎-elim (λ a. inl (omega arith)) (λ a. inr (omega arith)) h),
+)
+away (node j k s e cs r) i n w h = (
+  λ q. ⊎-elim (λ a. omega (arith, w .0)) (λ a. omega (arith, w .0)) h,
+  away cs (i + 1) n (w .1) (⊎-elim (λ a. inl (omega arith)) (λ a. inr (omega arith)) h),
+  away r (i + (1 + size cs)) n (w .2) (⊎-elim (λ a. inl (omega arith)) (λ a. inr (omega arith)) h),
+)
+
+no-element : (c : Elems) (n : ℕ) → Away n c → elementAt n c ≡ none
+unfolding elementAt orElse
+no-element none n a = refl
+no-element (token i k s e r) n a = rw (ne-eqb i n (a .0)) (no-element r n (a .1))
+no-element (node i k s e cs r) n a = rw (ne-eqb i n (a .0), no-element cs n (a .1)) (no-element r n (a .2))
+
+outside : (c : Elems) (i n : ℕ) → Numbered i c → (n < i) ⊎ (i + size c ≤ n) → elementAt n c ≡ none
+outside c i n w h = no-element c n (away c i n w h)
 
 -- what the words of an element of number n say; a node's are followed by its children's
 pub record NodeLooks (n k : ℕ) (cs : Elems) (p : List ℕ) : Type 0 where

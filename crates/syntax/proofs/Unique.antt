@@ -12,11 +12,11 @@ use lib.Dec.{eqb, leb}
 use borrow.Author.Tests.{eqb-true, le-leb, leb-true}
 use Rattle.errors.specs.declared.Outcome.the-variants.{Accepted}
 use Rattle.words.proofs.TestLaws.{and-both}
-use Rattle.words.specs.Fields.{syntaxKind, startOf, endOf}
+use Rattle.words.specs.Fields.{wordOf, syntaxKind, startOf, endOf}
 use Rattle.words.specs.Texts.{sameText}
 use Rattle.words.proofs.TextLaws.{same-equal}
 use Rattle.syntax.specs.Parts.{span, childWords, restWords}
-use Rattle.syntax.specs.Trees.{Elems, none, token, node, size, words, wordOf, elementWord, elems, tree, tiles, formed, covers, isTree, depth}
+use Rattle.syntax.specs.Trees.{Elems, none, token, node, size, words, elementWord, elems, tree, tiles, formed, covers, isTree, depth}
 use Rattle.syntax.specs.Rows.{isRoot, every}
 use Rattle.syntax.specs.Checks.{isTooLarge, treeOutcome, TreeOf}
 use Rattle.syntax.proofs.PartLaws.{span-token, span-node}

@@ -10,9 +10,9 @@ use lib.Seq.{take-at, drop-at}
 use lib.Dec.{eqb, leb, ltb}
 use borrow.Author.Tests.{eqb-true, leb-true, ltb-true, eq-eqb, ne-eqb, le-leb, lt-ltb}
 use Rattle.words.proofs.TestLaws.{and-both, and-of}
-use Rattle.words.specs.Fields.{kindAt, isNode, isToken, syntaxKind, sizeOf, startOf, endOf}
+use Rattle.words.specs.Fields.{wordOf, kindAt, isNode, isToken, syntaxKind, sizeOf, startOf, endOf}
 use Rattle.syntax.specs.Parts.{span, childWords, restWords}
-use Rattle.syntax.specs.Trees.{Elems, none, token, node, size, words, wordOf, elementWord, isTokenKind, isNodeKind, tiles, formed}
+use Rattle.syntax.specs.Trees.{Elems, none, token, node, size, words, elementWord, isTokenKind, isNodeKind, tiles, formed}
 use Rattle.syntax.specs.Rows.{inRow, isRanged, isTokenPart, isNodeHead, isNodePart, isElement, every}
 use Rattle.syntax.proofs.PartLaws.{span-token, span-node}
 use Rattle.syntax.proofs.RowLaws.{row-end, row-next, every-next, element-token, element-node}

@@ -7,7 +7,7 @@ use mathlib.Core.Bool.{Bool, true, false, cond, _&&_}
 use mathlib.Core.List.{List, [], _∷_, _++_}
 use lib.Dec.{eqb, leb, ltb}
 use lib.ListN.{length}
-use Rattle.words.specs.Fields.{isToken, syntaxKind, startOf, endOf}
+use Rattle.words.specs.Fields.{wordOf, isToken, syntaxKind, startOf, endOf}
 use Rattle.words.specs.Texts.{sameText}
 use Rattle.syntax.specs.Parts.{span, childWords, restWords}
 
@@ -41,9 +41,6 @@ depth (node i k s e cs r) = deeper (1 + depth cs) (depth r)
 
 -- "Element: kind 1 (node) or 2 (token), 12 bits syntax kind, 16 bits subtree size in elements, itself included; then a kind 3 word
 -- (start byte) and a kind 4 word (end byte)"; "A token has size 1"
-abbrev pub wordOf : ℕ → ℕ → ℕ
-wordOf kind value = kind * 268435456 + value
-
 abbrev pub elementWord : ℕ → ℕ → ℕ → ℕ
 elementWord kind syntax n = wordOf kind (syntax * 65536 + n)
 
