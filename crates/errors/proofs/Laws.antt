@@ -1,12 +1,15 @@
--- Checks in their order.
+-- Checks in their order, stages in turn, and the lowest of several outcomes.
 -- Assumes nothing.
 use mathlib.Core.Path.{_≡_, refl, sym, ap, _∙_}
-use mathlib.Core.Bool.{Bool, true, false, false≢true}
+use mathlib.Core.Bool.{Bool, true, false, cond, false≢true}
 use mathlib.Core.List.{List, [], _∷_, _++_}
+use native.Mathlib.Omega.{arith}
+use lib.Dec.{leb}
+use borrow.Author.Tests.{leb-true, leb-false, le-leb, lt-leb}
 use Rattle.errors.specs.declared.Outcome.{Outcome}
 use Rattle.errors.specs.declared.Outcome.the-variants.{Accepted, Refused}
 use Rattle.errors.specs.declared.Refusal.{Refusal}
-use Rattle.errors.specs.Refusals.{Check, firstOf}
+use Rattle.errors.specs.Refusals.{numberOf, lowestOf, lowest, Check, firstOf, inTurn}
 
 -- a refusal is no acceptance
 abbrev passes : Outcome → Bool
@@ -44,3 +47,46 @@ stop-on c cs more r on h false b = first-holds c (cs ++ more) b ∙ on (sym (fir
 pub first-stop : (cs more : List Check) (r : Refusal) → firstOf cs ≡ Refused r → firstOf (cs ++ more) ≡ Refused r
 first-stop [] more r h = absurd (refused-not (sym h ∙ none-accepted))
 first-stop (c ∷ cs) more r h = stop-on c cs more r (first-stop cs more r) h (c .fails) refl
+
+-- a stage that passes, and one that refuses
+pub turn-passes : (a : Outcome) (rest : List Outcome) → a ≡ Accepted → inTurn (a ∷ rest) ≡ inTurn rest
+unfolding inTurn
+turn-passes a rest h = rw h
+
+pub turn-refuses : (a : Outcome) (rest : List Outcome) (r : Refusal) → a ≡ Refused r → inTurn (a ∷ rest) ≡ Refused r
+unfolding inTurn
+turn-refuses a rest r h = rw h
+
+pub turn-end : inTurn [] ≡ Accepted
+unfolding inTurn
+turn-end = refl
+
+-- the lowest of several: one behind the others, and none
+pub lowest-accepted : (a : Outcome) → lowestOf a Accepted ≡ a
+lowest-accepted Accepted = refl
+lowest-accepted (Refused r) = refl
+
+lowest-three : (r s t : Refusal) (x y z : Bool) → leb (numberOf r) (numberOf s) ≡ x → leb (numberOf s) (numberOf t) ≡ y → leb (numberOf r) (numberOf t) ≡ z
+    → lowestOf (lowestOf (Refused r) (Refused s)) (Refused t) ≡ lowestOf (Refused r) (lowestOf (Refused s) (Refused t))
+lowest-three r s t true true true p q o = rw (p, q, p, o)
+lowest-three r s t true true false p q o = absurd (false≢true (sym o ∙ le-leb (numberOf r) (numberOf t) (omega (arith, leb-true (numberOf r) (numberOf s) p, leb-true (numberOf s) (numberOf t) q))))
+lowest-three r s t true false z p q o = rw (p, q)
+lowest-three r s t false true z p q o = rw (p, q, p)
+lowest-three r s t false false true p q o = absurd (false≢true (sym (lt-leb (numberOf r) (numberOf t) (omega (arith, leb-false (numberOf r) (numberOf s) p, leb-false (numberOf s) (numberOf t) q))) ∙ o))
+lowest-three r s t false false false p q o = rw (p, q, o)
+
+pub lowest-of-three : (a b c : Outcome) → lowestOf (lowestOf a b) c ≡ lowestOf a (lowestOf b c)
+lowest-of-three Accepted b c = refl
+lowest-of-three (Refused r) Accepted c = refl
+lowest-of-three (Refused r) (Refused s) Accepted = lowest-accepted (lowestOf (Refused r) (Refused s))
+lowest-of-three (Refused r) (Refused s) (Refused t) = lowest-three r s t _ _ _ refl refl refl
+
+-- of two, both pass where the lowest does
+both-of : (r s : Refusal) (x : Bool) → leb (numberOf r) (numberOf s) ≡ x → lowestOf (Refused r) (Refused s) ≡ Accepted → ⊥
+both-of r s true e h = refused-not {r = r} (rw e at h)
+both-of r s false e h = refused-not {r = s} (rw e at h)
+
+pub both-pass : (a b : Outcome) → lowestOf a b ≡ Accepted → (a ≡ Accepted) × (b ≡ Accepted)
+both-pass Accepted b h = (refl, h)
+both-pass (Refused r) Accepted h = absurd (refused-not h)
+both-pass (Refused r) (Refused s) h = absurd (both-of r s _ refl h)

@@ -72,3 +72,9 @@ pub record Check : Type 0 where
 unfoldable pub firstOf : List Check → Outcome
 firstOf [] = Accepted
 firstOf (c ∷ cs) = cond (c .fails) (Refused (c .refusal)) (firstOf cs)
+
+-- stages in turn: the first that refuses
+unfoldable pub inTurn : List Outcome → Outcome
+inTurn [] = Accepted
+inTurn (Accepted ∷ rest) = inTurn rest
+inTurn (Refused r ∷ rest) = Refused r

@@ -1,7 +1,7 @@
 -- The accessors from the front of a part.
 -- Assumes nothing.
 use mathlib.Core.Path.{_≡_, refl, sym, ap, _∙_}
-use mathlib.Core.Bool.{Bool, true, false, cond, false≢true}
+use mathlib.Core.Bool.{Bool, true, false, cond, _||_, false≢true}
 use mathlib.Core.List.{List, []}
 use Prim.Native.Nat.{ℕ, _+_, _≤_, _<_}
 use native.Mathlib.Omega.{arith}
@@ -13,7 +13,7 @@ use Rattle.words.specs.Texts.{part}
 use Rattle.syntax.specs.declared.parts.Range.{Range}
 use Rattle.syntax.specs.Parts.{span, childWords, restWords}
 use Rattle.syntax.specs.Trees.{Elems, none, token, node, elems}
-use Rattle.syntax.specs.Accessors.{children, rest, rangeOf, textOf, some, between, nodeIn, tokenIn, findNode, firstToken, onlyIdent}
+use Rattle.syntax.specs.Accessors.{children, rest, numberOf, rangeOf, textOf, some, between, nodeIn, tokenIn, hasKind, hasElement, findNode, firstToken, onlyIdent}
 use Rattle.syntax.proofs.PartLaws.{span-token, no-children, length-rest}
 use Rattle.syntax.proofs.TreeLaws.{elems-end, elems-token, elems-node}
 
@@ -31,6 +31,14 @@ rest-of i l h false t = rw (elems-node i l h t)
 
 pub rest-are : (i : ℕ) (l : List ℕ) → 3 ≤ length l → rest (elems i l) ≡ elems (i + span l) (restWords l)
 rest-are i l h = rest-of i l h (isToken l) refl
+
+-- its number
+number-of : (i : ℕ) (l : List ℕ) → 3 ≤ length l → (b : Bool) → isToken l ≡ b → numberOf (elems i l) ≡ i
+number-of i l h true t = rw (elems-token i l h t)
+number-of i l h false t = rw (elems-node i l h t)
+
+pub number-is : (i : ℕ) (l : List ℕ) → 3 ≤ length l → numberOf (elems i l) ≡ i
+number-is i l h = number-of i l h (isToken l) refl
 
 -- its range and its text
 range-of : (i : ℕ) (l : List ℕ) → 3 ≤ length l → (b : Bool) → isToken l ≡ b → rangeOf (elems i l) ≡ record { start = startOf l; end = endOf l }
@@ -78,6 +86,26 @@ module _ (low high i : ℕ) (l : List ℕ) where
 
   pub token-node : 3 ≤ length l → isToken l ≡ false → tokenIn low high (elems i l) ≡ false
   token-node h t = rw (elems-node i l h t)
+
+-- an element of a kind: at the end, here, further on
+pub has-end : (n : Bool) (kind i : ℕ) (l : List ℕ) → length l < 3 → hasElement n kind (elems i l) ≡ false
+unfolding hasElement
+has-end n kind i l h = rw (elems-end i l h)
+
+has-first : (n : Bool) (kind : ℕ) (c : Elems) → hasElement n kind c ≡ (hasKind n kind c || hasElement n kind (children c) || hasElement n kind (rest c))
+unfolding hasElement
+has-first true kind none = refl
+has-first false kind none = refl
+has-first n kind (token i k s e r) = no-more (hasKind n kind (token i k s e r))
+  where
+    no-more : (b : Bool) → (b || hasElement n kind r) ≡ (b || false || hasElement n kind r)
+    no-more true = refl
+    no-more false = refl
+has-first n kind (node i k s e cs r) = refl
+
+pub has-next : (n : Bool) (kind i : ℕ) (l : List ℕ) → 3 ≤ length l
+    → hasElement n kind (elems i l) ≡ (hasKind n kind (elems i l) || hasElement n kind (elems (i + 1) (childWords l)) || hasElement n kind (elems (i + span l) (restWords l)))
+has-next n kind i l h = rw (← children-are i l h, ← rest-are i l h) (has-first n kind (elems i l))
 
 -- the first node of such a kind: the end, here, further on
 pub find-here : (low high : ℕ) (c : Elems) → nodeIn low high c ≡ true → findNode low high c ≡ c

@@ -7,7 +7,7 @@ ghost use mathlib.Core.Path.{_≡_};
 ghost use Prim.Native.Nat.{ℕ, _+_, _*_, _<_};
 ghost use lib.ListN.{drop};
 ghost use Rattle.syntax.specs.Trees.{elems, tree};
-ghost use Rattle.syntax.specs.Accessors.{children, rangeOf, nodeIn, tokenIn, findNode, firstToken, onlyIdent, elementAt, standing};
+ghost use Rattle.syntax.specs.Accessors.{children, rangeOf, nodeIn, tokenIn, hasKind, hasElement, findNode, firstToken, onlyIdent, elementAt, standing};
 ghost use Rattle.syntax.specs.Checks.{WellFormed};
 
 // The range of the first element.
@@ -47,6 +47,34 @@ pub fn is_token_in(c: &[u32], low: u32, high: u32) -> bool
     if fields::is_token(c) {
         let kind = fields::syntax_kind(c);
         return (low <= kind) & (kind <= high);
+    }
+    false
+}
+
+// Whether the first element is a node, or a token, of a kind.
+fn has_kind(c: &[u32], node: bool, kind: u32) -> bool
+    ensures { λ r. ⌜ ((i : ℕ) → r ≡ hasKind node kind (elems i (now (c .entry)))) ⌝ }
+{
+    if node {
+        return is_node_in(c, kind, kind);
+    }
+    is_token_in(c, kind, kind)
+}
+
+// Whether a node, or a token, of a kind is among siblings or below them. The stack grows with the depth alone.
+pub fn contains(part: &[u32], node: bool, kind: u32) -> bool
+    ensures { λ r. ⌜ ((i : ℕ) → r ≡ hasElement node kind (elems i (now (part .entry)))) ⌝ }
+{
+    let mut c = part;
+    while 3 <= c.len() {
+        if has_kind(c, node, kind) {
+            return true;
+        }
+        if contains(parts::children(c), node, kind) {
+            return true;
+        }
+        let d = parts::rest(c);
+        c = d;
     }
     false
 }

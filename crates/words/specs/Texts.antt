@@ -9,7 +9,7 @@ use Rattle.words.specs.Fields.{startOf, endOf}
 use Rattle.words.specs.declared.texts.Source.{Source}
 use Rattle.words.specs.declared.texts.Source.the-variants.{File, Rule}
 
--- the bytes of a text from a start up to an end; none where these are not a range of the text
+-- the bytes of a text, or the words of a list, from a start up to an end; none where these are no range of it
 unfoldable pub part : List ℕ → ℕ → ℕ → List ℕ
 part t start end = cond (leb start end && leb end (length t)) (take (end - start) (drop start t)) []
 

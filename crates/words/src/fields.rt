@@ -2,6 +2,7 @@
 // and is total: a word that is not there counts as 0.
 ghost use mathlib.Core.Path.{_≡_};
 ghost use lib.ListN.{drop};
+ghost use Rattle.words.specs.Texts.{part};
 ghost use Rattle.words.specs.Fields.{wordAt, kindAt, valueAt, isNode, isToken, syntaxKind, sizeOf, startOf, endOf, tokenKind, tokenLength, factSort, factElement, parseKind, parseCount, editStart, editEnd, editLength};
 
 // Word i of a part, 0 past its end.
@@ -22,6 +23,19 @@ pub fn tail(c: &[u32], i: usize) -> &[u32]
         return &c[i..];
     }
     &c[..0]
+}
+
+// The words from one up to another; none where these are not a range of the part.
+pub fn part_of(c: &[u32], start: usize, end: usize) -> &[u32]
+    ensures { λ r. ⌜ now r ≡ part (now (c .entry)) start end ⌝ }
+{
+    if end < start {
+        return &c[..0];
+    }
+    if c.len() < end {
+        return &c[..0];
+    }
+    &c[start..end]
 }
 
 // The kind of word i.

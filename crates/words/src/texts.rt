@@ -1,6 +1,7 @@
 // Texts: a part of the file's or of the rule's, comparing two, and comparing one with the fixed byte strings.
 use crate::fields;
 ghost use mathlib.Core.Path.{_≡_};
+ghost use lib.ListN.{drop};
 ghost use Rattle.words.specs.Texts.{part, textOf, sameText, hasPrefix, standInPrefix, kindText, notText, literalText, openText, closeText};
 
 // Which text an element's range is in.
@@ -20,6 +21,16 @@ pub fn part_of(t: &[u8], start: usize, end: usize) -> &[u8]
         return &t[..0];
     }
     &t[start..end]
+}
+
+// The bytes from a place on, none past the end.
+pub fn tail(t: &[u8], start: usize) -> &[u8]
+    ensures { λ r. ⌜ now r ≡ drop start (now (t .entry)) ⌝ }
+{
+    if start < t.len() {
+        return &t[start..];
+    }
+    &t[..0]
 }
 
 // The text of the element that the part c begins with.

@@ -1,0 +1,16 @@
+-- `fragments::directory::counts` meets its contract.
+-- Assumes nothing.
+use mathlib.Core.Path.{_≡_, sym, ap}
+use Rattle.fragments.proofs.directory.counts.Statement.{statement}
+use Rattle.fragments.proofs.directory.counts.Tie as tie
+use Rattle.fragments.proofs.directory.counts.Reads as reads
+use Rattle.fragments.proofs.directory.counts.Lts as lts
+
+returns : tie.Need-returns
+returns c = rw (c .if1 .taken)
+
+returns-2 : tie.Need-returns-2
+returns-2 c = rw (c .if1 .left)
+
+pub counts-spec : {M : Type 1} → statement M
+counts-spec = tie.close (tie.spec returns returns-2)

@@ -1,0 +1,22 @@
+-- `fragments::pairs::next_bytes` meets its contract.
+-- Assumes nothing.
+use mathlib.Core.Path.{_∙_}
+use borrow.Author.Needs.{needs}
+use Rattle.fragments.proofs.pairs.next_bytes.Statement.{statement}
+use Rattle.fragments.proofs.pairs.next_bytes.Tie as tie
+use Rattle.fragments.proofs.pairs.next_bytes.Reads as reads
+use Rattle.fragments.proofs.pairs.next_bytes.Lts as lts
+use Rattle.fragments.proofs.directory.counted_before.Reads as counted-before-reads
+use Rattle.words.proofs.texts.tail.Reads as tail-reads
+
+counted-before-requires : tie.Need-counted-before-requires
+counted-before-requires c κs = search needs
+
+tail-requires : tie.Need-tail-requires
+tail-requires c κs = search needs
+
+returns : tie.Need-returns
+returns c = c .tail .ensures ∙ rw (c .before .counted-before .ensures .0)
+
+pub next-bytes-spec : {M : Type 1} → statement M
+next-bytes-spec = tie.close (tie.spec counted-before-requires tail-requires returns)

@@ -1,0 +1,2 @@
+pub mod Directory
+pub mod Pairs
