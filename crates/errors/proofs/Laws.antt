@@ -57,9 +57,10 @@ pub turn-refuses : (a : Outcome) (rest : List Outcome) (r : Refusal) → a ≡ R
 unfolding inTurn
 turn-refuses a rest r h = rw h
 
-pub turn-end : inTurn [] ≡ Accepted
+pub turn-last : (a : Outcome) → inTurn (a ∷ []) ≡ a
 unfolding inTurn
-turn-end = refl
+turn-last Accepted = refl
+turn-last (Refused r) = refl
 
 -- the lowest of several: one behind the others, and none
 pub lowest-accepted : (a : Outcome) → lowestOf a Accepted ≡ a

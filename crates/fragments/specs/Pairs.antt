@@ -15,6 +15,13 @@ pub record Pair : Type 0 where
   pub words : List ℕ
   pub bytes : List ℕ
 
+-- what of a pair is in its words, and what in its bytes
+abbrev pub inWords : List ℕ → List ℕ → Pair
+inWords row words = record { row = row; words = words; bytes = [] }
+
+abbrev pub inBytes : List ℕ → List ℕ → Pair
+inBytes row bytes = record { row = row; words = []; bytes = bytes }
+
 -- n pairs, each behind the one before, and all of a directory's
 unfoldable pub pairsOf : ℕ → List ℕ → List ℕ → List ℕ → List Pair
 pairsOf zero directory words bytes = []

@@ -4,10 +4,11 @@ use words::fields;
 use words::texts;
 ghost use mathlib.Core.Path.{_≡_};
 ghost use mathlib.Core.Bool.{true, false};
+ghost use mathlib.Core.List.{[]};
 ghost use Prim.Native.Nat.{_≤_};
 ghost use lib.ListN.{drop};
 ghost use Rattle.fragments.specs.Directory.{counted};
-ghost use Rattle.fragments.specs.Pairs.{partOf};
+ghost use Rattle.fragments.specs.Pairs.{partOf, inWords, inBytes, listOf, textOf, codeOf, isGiven, treeOf, factsOf};
 
 // The words that an entry counts.
 pub fn word_part<'a>(row: &[u32], words: &'a [u32], k: usize) -> &'a [u32]
@@ -46,4 +47,51 @@ pub fn next_bytes<'a>(row: &[u32], bytes: &'a [u8]) -> &'a [u8]
     ensures { λ r. ⌜ now r ≡ drop (counted false (now (row .entry))) (now (bytes .entry)) ⌝ }
 {
     texts::tail(bytes, directory::counted_before(row, false, 27))
+}
+
+// The token list of a side: 0 the pattern's, 1 the template's.
+pub fn list<'a>(row: &[u32], words: &'a [u32], side: usize) -> &'a [u32]
+    requires { ⌜ side ≤ 1 ⌝ }
+    ensures { λ r. ⌜ now r ≡ listOf side (inWords (now (row .entry)) (now (words .entry))) ⌝ }
+{
+    word_part(row, words, 4 * side)
+}
+
+// The text of a side's list.
+pub fn text<'a>(row: &[u32], bytes: &'a [u8], side: usize) -> &'a [u8]
+    requires { ⌜ side ≤ 1 ⌝ }
+    ensures { λ r. ⌜ now r ≡ textOf side (inBytes (now (row .entry)) (now (bytes .entry))) ⌝ }
+{
+    byte_part(row, bytes, 4 * side + 1)
+}
+
+// The code that a side's trees were parsed from.
+pub fn code<'a>(row: &[u32], bytes: &'a [u8], side: usize) -> &'a [u8]
+    requires { ⌜ side ≤ 1 ⌝ }
+    ensures { λ r. ⌜ now r ≡ codeOf side (inBytes (now (row .entry)) (now (bytes .entry))) ⌝ }
+{
+    byte_part(row, bytes, 4 * side + 2)
+}
+
+// Whether a side's list is given; the pattern's always is.
+pub fn is_given(row: &[u32], side: usize) -> bool
+    ensures { λ r. ⌜ r ≡ isGiven side (inWords (now (row .entry)) []) ⌝ }
+{
+    (side == 0) | (directory::entry(row, 3) != 0)
+}
+
+// The tree of a form on a side; without words it is absent.
+pub fn tree<'a>(row: &[u32], words: &'a [u32], side: usize, form: usize) -> &'a [u32]
+    requires { ⌜ (side ≤ 1) × (form ≤ 4) ⌝ }
+    ensures { λ r. ⌜ now r ≡ treeOf side form (inWords (now (row .entry)) (now (words .entry))) ⌝ }
+{
+    word_part(row, words, 4 * form + 2 * side + 7)
+}
+
+// The facts of that tree.
+pub fn facts<'a>(row: &[u32], words: &'a [u32], side: usize, form: usize) -> &'a [u32]
+    requires { ⌜ (side ≤ 1) × (form ≤ 4) ⌝ }
+    ensures { λ r. ⌜ now r ≡ factsOf side form (inWords (now (row .entry)) (now (words .entry))) ⌝ }
+{
+    word_part(row, words, 4 * form + 2 * side + 8)
 }

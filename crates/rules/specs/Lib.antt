@@ -1,0 +1,4 @@
+pub mod Forms
+pub mod Stages
+pub mod Numbering
+pub mod Building
