@@ -3,7 +3,7 @@
 -- An element is the first of a sequence; an accessor that finds nothing gives the empty one.
 -- Assumes nothing.
 use Prim.Native.Nat.{ℕ, _+_}
-use mathlib.Core.Bool.{Bool, true, false, cond, _&&_}
+use mathlib.Core.Bool.{Bool, true, false, cond, _&&_, _||_}
 use mathlib.Core.List.{List, [], _∷_}
 use lib.Dec.{eqb, leb}
 use lib.ListN.{length}
@@ -22,6 +22,12 @@ abbrev pub rest : Elems → Elems
 rest none = none
 rest (token i k s e r) = r
 rest (node i k s e cs r) = r
+
+-- its number; 0 where there is none
+abbrev pub numberOf : Elems → ℕ
+numberOf none = 0
+numberOf (token i k s e r) = i
+numberOf (node i k s e cs r) = i
 
 -- its range, and its text
 abbrev pub rangeOf : Elems → Range
@@ -50,6 +56,15 @@ abbrev pub tokenIn : ℕ → ℕ → Elems → Bool
 tokenIn low high none = false
 tokenIn low high (token i k s e r) = between low high k
 tokenIn low high (node i k s e cs r) = false
+
+-- an element of a kind, a node or a token, is among siblings or below them
+abbrev pub hasKind : Bool → ℕ → Elems → Bool
+hasKind isNode kind c = cond isNode (nodeIn kind kind c) (tokenIn kind kind c)
+
+unfoldable pub hasElement : Bool → ℕ → Elems → Bool
+hasElement isNode kind none = false
+hasElement isNode kind (token i k s e r) = hasKind isNode kind (token i k s e r) || hasElement isNode kind r
+hasElement isNode kind (node i k s e cs r) = hasKind isNode kind (node i k s e cs r) || hasElement isNode kind cs || hasElement isNode kind r
 
 -- the first node among siblings whose kind is from one number to another
 unfoldable pub findNode : ℕ → ℕ → Elems → Elems
