@@ -1,11 +1,12 @@
 -- `resolve` of docs/src/src/resolving.rs at one element: which paths must resolve, and which are resolved.
 -- Assumes nothing.
-use Prim.Native.Nat.{ℕ, _*_, _/_, _%_}
+use Prim.Native.Nat.{ℕ, _*_, _/_, _%_, _<_}
 use mathlib.Core.Bool.{Bool, cond, not, _&&_}
 use mathlib.Core.List.{List}
 use lib.Dec.{eqb, ltb}
 use lib.ListN.{length, drop}
 use Rattle.words.specs.Fields.{valueAt}
+use Rattle.parsing.specs.Reading.{Var}
 use Rattle.syntax.specs.Trees.{Elems}
 use Rattle.syntax.specs.Accessors.{children, numberOf, nodeIn}
 use Rattle.facts.specs.Facts.{factsOf, factIndex}
@@ -18,6 +19,9 @@ pub record Side : Type 0 where
   pub placeholders : Placeholders
   pub code : List ℕ
   pub facts : List ℕ
+
+abbrev pub sideOf : List ℕ → List Var → List ℕ → List ℕ → Side
+sideOf text vs code facts = record { placeholders = record { text = text; vars = vs }; code = code; facts = facts }
 
 -- "1 pattern or template path, resolution, flags (1 usable, as `ok_to_use_path_resolution` says; 2 a definition; 4 an associated
 -- function)", of the fact at a place in the list
@@ -51,3 +55,10 @@ pathStep x c = cond (isSelf c) Skips (cond (isPlace x c) (byFact (x .facts) (pat
 
 unfoldable pub step : Side → Elems → Step
 step x c = cond (nodeIn 2 2 c) (pathStep x c) Enters
+
+-- the place of a fact, where there is one, is below n
+abbrev pub PlacedBelow : ℕ → Step → Type 0
+PlacedBelow n Skips = Unit {0}
+PlacedBelow n Fails = Unit {0}
+PlacedBelow n (Resolves place) = place < n
+PlacedBelow n Enters = Unit {0}

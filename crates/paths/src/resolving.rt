@@ -1,4 +1,20 @@
 // `resolve` of docs/src/src/resolving.rs.
+use crate::names;
+use facts::index;
+use parsing::patterns::Pattern;
+use syntax::accessors;
+use syntax::parts;
+ghost use mathlib.Core.Path.{_≡_};
+ghost use mathlib.Core.List.{List};
+ghost use Prim.Native.Nat.{ℕ, _/_, _≤_, _<_};
+ghost use lib.ListN.{length};
+ghost use Rattle.parsing.specs.Reading.{Var};
+ghost use Rattle.parsing.specs.Answers.{Eight, patternOf};
+ghost use Rattle.syntax.specs.Trees.{Elems, elems};
+ghost use Rattle.facts.specs.Keys.{Indexed};
+ghost use Rattle.paths.specs.Steps.{sideOf, pathPlace, byFact, step, PlacedBelow};
+ghost use Rattle.paths.specs.Resolved.{claimBy};
+ghost use Rattle.paths.specs.Tables.{noted, callNumber, AtElement, AtSiblings, Room};
 
 // What resolving does at an element.
 pub enum Step {
@@ -10,4 +26,160 @@ pub enum Step {
     Resolves(usize),
     // Anything else: its children are looked at.
     Enters,
+}
+
+// A path that must resolve, by its fact.
+fn step_by_fact(number: usize, facts: &[u32], index: &[u64]) -> Step
+    requires { ⌜ Indexed (now facts) (now index) ⌝ }
+    ensures { λ r. ⌜ r ≡ byFact (now (facts .entry)) (pathPlace (now (facts .entry)) number) ⌝ }
+    ensures { λ r. ⌜ PlacedBelow (length (now (facts .entry)) / 4) r ⌝ }
+{
+    let place = index::find(facts, index, 1, number, 0);
+    if place < facts.len() / 4 {
+        if index::value(facts, place, 2) % 2 == 1 {
+            return Step::Resolves(place);
+        }
+        return Step::Enters;
+    }
+    Step::Fails
+}
+
+// The element that a part begins with.
+pub fn step_at(
+    c: &[u32],
+    number: usize,
+    code: &[u8],
+    text: &[u8],
+    pattern: Pattern,
+    facts: &[u32],
+    index: &[u64],
+) -> Step
+    requires { ⌜ Eight pattern ⌝ }
+    requires { ⌜ Indexed (now facts) (now index) ⌝ }
+    ensures { λ r. ⌜ ((vs : List Var) (ns : List ℕ) → pattern ≡ patternOf vs ns → r ≡ step (sideOf (now (text .entry)) vs (now (code .entry)) (now (facts .entry))) (elems number (now (c .entry)))) ⌝ }
+    ensures { λ r. ⌜ PlacedBelow (length (now (facts .entry)) / 4) r ⌝ }
+{
+    if accessors::is_node_in(c, 2, 2) {
+        if names::is_self(c) {
+            return Step::Skips;
+        }
+        if names::contains_type_arguments(parts::children(c)) {
+            return Step::Enters;
+        }
+        if names::contains_placeholder(c, code, text, pattern) {
+            return Step::Enters;
+        }
+        return step_by_fact(number, facts, index);
+    }
+    Step::Enters
+}
+
+// A CALL_EXPR as one more than its number, any other element as 0.
+fn call_number(c: &[u32], number: usize) -> usize
+    requires { ⌜ number < 16383 ⌝ }
+    ensures { λ r. ⌜ r ≡ callNumber (elems number (now (c .entry))) ⌝ }
+{
+    if accessors::is_node_in(c, 64, 64) {
+        return number + 1;
+    }
+    0
+}
+
+// Notes a path for the call that is its grandparent, where its flags are those of an associated function.
+fn note_call(calls: &mut [u32], call: usize, path: usize, flags: u32)
+    requires { ⌜ (call ≤ length (now calls)) × (path < 16383) ⌝ }
+    ensures { λ _. ⌜ length (now (calls .exit)) ≡ length (now (calls .entry)) ⌝ }
+    ensures { λ _. ⌜ ((g : Elems) → call ≡ callNumber g → now (calls .exit) ≡ noted (claimBy path flags g) (now (calls .entry))) ⌝ }
+{
+    if (flags / 4 % 2 == 1) & (0 < call) {
+        calls[call - 1] = (path + 1) as u32;
+    }
+}
+
+// Resolves the element that a part begins with, and what is below it.
+fn resolve_element(
+    c: &[u32],
+    number: usize,
+    parent: usize,
+    grandparent: usize,
+    code: &[u8],
+    text: &[u8],
+    pattern: Pattern,
+    facts: &[u32],
+    index: &[u64],
+    paths: &mut [u32],
+    calls: &mut [u32],
+) -> bool
+    requires { ⌜ Eight pattern × Indexed (now facts) (now index) ⌝ }
+    requires { ⌜ Room (now c) number parent grandparent (now paths) (now calls) × (3 ≤ length (now c)) ⌝ }
+    ensures { λ _. ⌜ (length (now (paths .exit)) ≡ length (now (paths .entry))) × (length (now (calls .exit)) ≡ length (now (calls .entry))) ⌝ }
+    ensures { λ r. ⌜ ((vs : List Var) (ns : List ℕ) → pattern ≡ patternOf vs ns → AtElement (sideOf (now (text .entry)) vs (now (code .entry)) (now (facts .entry))) (elems number (now (c .entry))) number parent grandparent r (now (paths .entry)) (now (paths .exit)) (now (calls .entry)) (now (calls .exit))) ⌝ }
+{
+    match step_at(c, number, code, text, pattern, facts, index) {
+        Step::Skips => true,
+        Step::Fails => false,
+        Step::Resolves(place) => {
+            paths[number] = (place + 1) as u32;
+            note_call(calls, grandparent, number, index::value(facts, place, 2));
+            true
+        }
+        Step::Enters => resolve(
+            parts::children(c),
+            number + 1,
+            call_number(c, number),
+            parent,
+            code,
+            text,
+            pattern,
+            facts,
+            index,
+            paths,
+            calls,
+        ),
+    }
+}
+
+// Resolves siblings and what is below them; the parent and the grandparent are given as calls.
+pub fn resolve(
+    part: &[u32],
+    number: usize,
+    parent: usize,
+    grandparent: usize,
+    code: &[u8],
+    text: &[u8],
+    pattern: Pattern,
+    facts: &[u32],
+    index: &[u64],
+    paths: &mut [u32],
+    calls: &mut [u32],
+) -> bool
+    requires { ⌜ Eight pattern × Indexed (now facts) (now index) ⌝ }
+    requires { ⌜ Room (now part) number parent grandparent (now paths) (now calls) ⌝ }
+    ensures { λ _. ⌜ (length (now (paths .exit)) ≡ length (now (paths .entry))) × (length (now (calls .exit)) ≡ length (now (calls .entry))) ⌝ }
+    ensures { λ r. ⌜ ((vs : List Var) (ns : List ℕ) → pattern ≡ patternOf vs ns → AtSiblings (sideOf (now (text .entry)) vs (now (code .entry)) (now (facts .entry))) (elems number (now (part .entry))) parent grandparent r (now (paths .entry)) (now (paths .exit)) (now (calls .entry)) (now (calls .exit))) ⌝ }
+{
+    let mut c = part;
+    let mut at = number;
+    while 3 <= c.len() {
+        if resolve_element(
+            c,
+            at,
+            parent,
+            grandparent,
+            code,
+            text,
+            pattern,
+            facts,
+            index,
+            paths,
+            calls,
+        ) {
+            at += parts::span_of(c);
+            let d = parts::rest(c);
+            c = d;
+        } else {
+            return false;
+        }
+    }
+    true
 }

@@ -1,0 +1,237 @@
+-- `paths::resolving::resolve` and `resolve_element` meet their contracts. The measure is twice the part's length, and one more for
+-- siblings than for their first element. The loop's invariant: any state of the tables that is right for what is left is right for the part.
+-- Assumes nothing.
+use mathlib.Core.Path.{_≡_, refl, sym, ap, _∙_}
+use mathlib.Core.Bool.{Bool, true, false}
+use mathlib.Core.List.{List}
+use Prim.Native.Nat.{ℕ, _+_, _*_, _/_, _≤_, _<_}
+use native.Mathlib.Omega.{arith}
+use borrow.Author.Needs.{needs}
+use denote.Ref.{now}
+use lib.ListN.{length, set}
+use Rattle.parsing.specs.Reading.{Var}
+use Rattle.parsing.specs.Answers.{patternOf}
+use Rattle.syntax.specs.Parts.{span, childWords, restWords}
+use Rattle.syntax.specs.Trees.{Elems, elems}
+use Rattle.syntax.proofs.PartLaws.{span-pos, span-few, length-rest, rest-shorter, children-shorter}
+use Rattle.paths.specs.Steps.{sideOf, step}
+use Rattle.paths.specs.Tables.{callNumber, AtSiblings}
+use Rattle.paths.proofs.NameLaws.{children-of}
+use Rattle.paths.proofs.WalkLaws.{siblings-end, siblings-stop, siblings-then, element-skips, element-fails, element-resolves, element-enters}
+use borrow.Fn.Kinds.{In}
+use borrow.Fn.PlainCycle.{Measures, is, falls, and}
+use Rattle.paths.proofs.resolving.resolve.Reads as resolve
+use Rattle.paths.proofs.resolving.resolve.Kinds as resolve-kinds
+use Rattle.paths.proofs.resolving.+resolve+resolve_element.Lts-resolve as resolve-lts
+use Rattle.paths.proofs.resolving.resolve_element.Reads as resolve-element
+use Rattle.paths.proofs.resolving.resolve_element.Kinds as resolve-element-kinds
+use Rattle.paths.proofs.resolving.+resolve+resolve_element.Lts-resolve_element as resolve-element-lts
+use Rattle.facts.proofs.index.value.Reads as value-reads
+use Rattle.paths.proofs.resolving.call_number.Reads as call-number-reads
+use Rattle.paths.proofs.resolving.note_call.Reads as note-call-reads
+use Rattle.paths.proofs.resolving.step_at.Reads as step-at-reads
+use Rattle.syntax.proofs.parts.children.Reads as children-reads
+use Rattle.syntax.proofs.parts.rest.Reads as rest-reads
+use Rattle.syntax.proofs.parts.span_of.Reads as span-of-reads
+use Rattle.paths.proofs.resolving.+resolve+resolve_element.{statement}
+use Rattle.paths.proofs.resolving.+resolve+resolve_element.Tie.{close}
+
+abbrev μ-resolve : Measures 7 resolve-kinds.ps ℕ
+μ-resolve κs a = 2 * length (a .0 .now) + 1
+
+abbrev μ-resolve-element : Measures 7 resolve-element-kinds.ps ℕ
+μ-resolve-element κs a = 2 * length (a .0 .now)
+
+abbrev resolve-at : ℕ → In 7 resolve-kinds.ps
+resolve-at t = and 7 resolve-kinds.ps (is 7 resolve-kinds.ps μ-resolve t) resolve.Pre
+
+abbrev resolve-below : ℕ → In 7 resolve-kinds.ps
+resolve-below t = and 7 resolve-kinds.ps (falls 7 resolve-kinds.ps _<_ μ-resolve t) resolve.Pre
+
+abbrev resolve-element-at : ℕ → In 7 resolve-element-kinds.ps
+resolve-element-at t =
+    and
+    7
+    resolve-element-kinds.ps
+    (is 7 resolve-element-kinds.ps μ-resolve-element t)
+    resolve-element.Pre
+
+abbrev resolve-element-below : ℕ → In 7 resolve-element-kinds.ps
+resolve-element-below t =
+    and
+    7
+    resolve-element-kinds.ps
+    (falls 7 resolve-element-kinds.ps _<_ μ-resolve-element t)
+    resolve-element.Pre
+
+-- what each may take of the functions that it calls, at the measure t
+abbrev resolve-claims : ℕ → resolve-lts.Claims
+resolve-claims t = (resolve-element-below t, resolve-element.Post, span-of-reads.Asked, span-of-reads.Learnt, rest-reads.Asked, rest-reads.Learnt)
+
+abbrev resolve-element-claims : ℕ → resolve-element-lts.Claims
+resolve-element-claims t = (step-at-reads.Asked, step-at-reads.Learnt, value-reads.Asked, value-reads.Learnt, note-call-reads.Asked, note-call-reads.Learnt, children-reads.Asked, children-reads.Learnt, call-number-reads.Asked, call-number-reads.Learnt, resolve-below t, resolve.Post)
+
+abbrev resolve-Inv-loop : resolve-lts.InvT-loop
+resolve-Inv-loop part number parent grandparent code text pattern facts index paths₀ calls₀ c₀ at₀ paths calls c at =
+    (length c ≤ length part) × (length paths ≡ length paths₀) × (length calls ≡ length calls₀) × (3 ≤ length c → at + length c / 3 ≤ length paths)
+    × ((vs : List Var) (ns : List ℕ) → pattern ≡ patternOf vs ns → (r : Bool) (p k : List ℕ)
+    → AtSiblings (sideOf text vs code facts) (elems at c) parent grandparent r paths p calls k
+    → AtSiblings (sideOf text vs code facts) (elems number part) parent grandparent r paths₀ p calls₀ k)
+
+abbrev resolve-μ-loop : resolve-lts.MeasureT-loop
+resolve-μ-loop part number parent grandparent code text pattern facts index paths₀ calls₀ c₀ at₀ paths calls c at =
+    length c
+
+resolve-loop-holds : (t : ℕ) → resolve-lts.Need-loop-holds (resolve-claims t) (resolve-at t) resolve.Post resolve-Inv-loop resolve-μ-loop
+resolve-loop-holds t c = ?
+
+resolve-resolve-element-requires : (t : ℕ) → resolve-lts.Need-resolve-element-requires (resolve-claims t) (resolve-at t) resolve.Post resolve-Inv-loop resolve-μ-loop
+resolve-resolve-element-requires t c κs = ?
+
+resolve-span-of-requires : (t : ℕ) → resolve-lts.Need-span-of-requires (resolve-claims t) (resolve-at t) resolve.Post resolve-Inv-loop resolve-μ-loop
+resolve-span-of-requires t c κs = ?
+
+resolve-add-at : (t : ℕ) → resolve-lts.Need-add-at (resolve-claims t) (resolve-at t) resolve.Post resolve-Inv-loop resolve-μ-loop
+resolve-add-at t c = ?
+
+resolve-rest-requires : (t : ℕ) → resolve-lts.Need-rest-requires (resolve-claims t) (resolve-at t) resolve.Post resolve-Inv-loop resolve-μ-loop
+resolve-rest-requires t c κs = ?
+
+resolve-loop-less : (t : ℕ) → resolve-lts.Need-loop-less (resolve-claims t) (resolve-at t) resolve.Post resolve-Inv-loop resolve-μ-loop
+resolve-loop-less t c = ?
+
+resolve-loop-again : (t : ℕ) → resolve-lts.Need-loop-again (resolve-claims t) (resolve-at t) resolve.Post resolve-Inv-loop resolve-μ-loop
+resolve-loop-again t c = ?
+
+resolve-same-length : (t : ℕ) → resolve-lts.Need-same-length (resolve-claims t) (resolve-at t) resolve.Post resolve-Inv-loop resolve-μ-loop
+resolve-same-length t c = ?
+
+resolve-same-length-2 : (t : ℕ) → resolve-lts.Need-same-length-2 (resolve-claims t) (resolve-at t) resolve.Post resolve-Inv-loop resolve-μ-loop
+resolve-same-length-2 t c = ?
+
+resolve-returns : (t : ℕ) → resolve-lts.Need-returns (resolve-claims t) (resolve-at t) resolve.Post resolve-Inv-loop resolve-μ-loop
+resolve-returns t c = ?
+
+resolve-same-length-3 : (t : ℕ) → resolve-lts.Need-same-length-3 (resolve-claims t) (resolve-at t) resolve.Post resolve-Inv-loop resolve-μ-loop
+resolve-same-length-3 t c = ?
+
+resolve-same-length-4 : (t : ℕ) → resolve-lts.Need-same-length-4 (resolve-claims t) (resolve-at t) resolve.Post resolve-Inv-loop resolve-μ-loop
+resolve-same-length-4 t c = ?
+
+resolve-returns-2 : (t : ℕ) → resolve-lts.Need-returns-2 (resolve-claims t) (resolve-at t) resolve.Post resolve-Inv-loop resolve-μ-loop
+resolve-returns-2 t c = ?
+
+resolve-element-step-at-requires : (t : ℕ) → resolve-element-lts.Need-step-at-requires (resolve-element-claims t) (resolve-element-at t) resolve-element.Post
+resolve-element-step-at-requires t c κs = ?
+
+resolve-element-enum-told : (t : ℕ) → resolve-element-lts.Need-enum-told (resolve-element-claims t) (resolve-element-at t) resolve-element.Post
+resolve-element-enum-told t c = ?
+
+resolve-element-enum-told-2 : (t : ℕ) → resolve-element-lts.Need-enum-told-2 (resolve-element-claims t) (resolve-element-at t) resolve-element.Post
+resolve-element-enum-told-2 t c = ?
+
+resolve-element-enum-known-place : (t : ℕ) → resolve-element-lts.Need-enum-known-place (resolve-element-claims t) (resolve-element-at t) resolve-element.Post
+resolve-element-enum-known-place t c = ?
+
+resolve-element-add-paths : (t : ℕ) → resolve-element-lts.Need-add-paths (resolve-element-claims t) (resolve-element-at t) resolve-element.Post
+resolve-element-add-paths t c = ?
+
+resolve-element-cast-paths : (t : ℕ) → resolve-element-lts.Need-cast-paths (resolve-element-claims t) (resolve-element-at t) resolve-element.Post
+resolve-element-cast-paths t c = ?
+
+resolve-element-mul-paths : (t : ℕ) → resolve-element-lts.Need-mul-paths (resolve-element-claims t) (resolve-element-at t) resolve-element.Post
+resolve-element-mul-paths t c = ?
+
+resolve-element-slice-write-paths : (t : ℕ) → resolve-element-lts.Need-slice-write-paths (resolve-element-claims t) (resolve-element-at t) resolve-element.Post
+resolve-element-slice-write-paths t c = ?
+
+resolve-element-value-requires : (t : ℕ) → resolve-element-lts.Need-value-requires (resolve-element-claims t) (resolve-element-at t) resolve-element.Post
+resolve-element-value-requires t c κs = ?
+
+resolve-element-note-call-requires : (t : ℕ) → resolve-element-lts.Need-note-call-requires (resolve-element-claims t) (resolve-element-at t) resolve-element.Post
+resolve-element-note-call-requires t c κs = ?
+
+resolve-element-enum-told-3 : (t : ℕ) → resolve-element-lts.Need-enum-told-3 (resolve-element-claims t) (resolve-element-at t) resolve-element.Post
+resolve-element-enum-told-3 t c = ?
+
+resolve-element-children-requires : (t : ℕ) → resolve-element-lts.Need-children-requires (resolve-element-claims t) (resolve-element-at t) resolve-element.Post
+resolve-element-children-requires t c κs = ?
+
+resolve-element-add-resolve : (t : ℕ) → resolve-element-lts.Need-add-resolve (resolve-element-claims t) (resolve-element-at t) resolve-element.Post
+resolve-element-add-resolve t c = ?
+
+resolve-element-call-number-requires : (t : ℕ) → resolve-element-lts.Need-call-number-requires (resolve-element-claims t) (resolve-element-at t) resolve-element.Post
+resolve-element-call-number-requires t c κs = ?
+
+resolve-element-resolve-requires : (t : ℕ) → resolve-element-lts.Need-resolve-requires (resolve-element-claims t) (resolve-element-at t) resolve-element.Post
+resolve-element-resolve-requires t c κs = ?
+
+resolve-element-returns : (t : ℕ) → resolve-element-lts.Need-returns (resolve-element-claims t) (resolve-element-at t) resolve-element.Post
+resolve-element-returns t c = ?
+
+resolve-element-returns-2 : (t : ℕ) → resolve-element-lts.Need-returns-2 (resolve-element-claims t) (resolve-element-at t) resolve-element.Post
+resolve-element-returns-2 t c = ?
+
+resolve-element-same-length : (t : ℕ) → resolve-element-lts.Need-same-length (resolve-element-claims t) (resolve-element-at t) resolve-element.Post
+resolve-element-same-length t c = ?
+
+resolve-element-same-length-2 : (t : ℕ) → resolve-element-lts.Need-same-length-2 (resolve-element-claims t) (resolve-element-at t) resolve-element.Post
+resolve-element-same-length-2 t c = ?
+
+resolve-element-returns-3 : (t : ℕ) → resolve-element-lts.Need-returns-3 (resolve-element-claims t) (resolve-element-at t) resolve-element.Post
+resolve-element-returns-3 t c = ?
+
+resolve-element-same-length-3 : (t : ℕ) → resolve-element-lts.Need-same-length-3 (resolve-element-claims t) (resolve-element-at t) resolve-element.Post
+resolve-element-same-length-3 t c = ?
+
+resolve-element-same-length-4 : (t : ℕ) → resolve-element-lts.Need-same-length-4 (resolve-element-claims t) (resolve-element-at t) resolve-element.Post
+resolve-element-same-length-4 t c = ?
+
+resolve-element-returns-4 : (t : ℕ) → resolve-element-lts.Need-returns-4 (resolve-element-claims t) (resolve-element-at t) resolve-element.Post
+resolve-element-returns-4 t c = ?
+
+pub +resolve+resolve-element-spec : {M : Type 1} → statement M
++resolve+resolve-element-spec = close μ-resolve μ-resolve-element (λ t. resolve-lts.spec (resolve-claims t)
+    (resolve-at t)
+    resolve.Post
+    resolve-Inv-loop
+    resolve-μ-loop
+    (resolve-loop-holds t)
+    (resolve-resolve-element-requires t)
+    (resolve-span-of-requires t)
+    (resolve-add-at t)
+    (resolve-rest-requires t)
+    (resolve-loop-less t)
+    (resolve-loop-again t)
+    (resolve-same-length t)
+    (resolve-same-length-2 t)
+    (resolve-returns t)
+    (resolve-same-length-3 t)
+    (resolve-same-length-4 t)
+    (resolve-returns-2 t))
+    λ t. resolve-element-lts.spec (resolve-element-claims t)
+    (resolve-element-at t)
+    resolve-element.Post
+    (resolve-element-step-at-requires t)
+    (resolve-element-enum-told t)
+    (resolve-element-enum-told-2 t)
+    (resolve-element-enum-known-place t)
+    (resolve-element-add-paths t)
+    (resolve-element-cast-paths t)
+    (resolve-element-mul-paths t)
+    (resolve-element-slice-write-paths t)
+    (resolve-element-value-requires t)
+    (resolve-element-note-call-requires t)
+    (resolve-element-enum-told-3 t)
+    (resolve-element-children-requires t)
+    (resolve-element-add-resolve t)
+    (resolve-element-call-number-requires t)
+    (resolve-element-resolve-requires t)
+    (resolve-element-returns t)
+    (resolve-element-returns-2 t)
+    (resolve-element-same-length t)
+    (resolve-element-same-length-2 t)
+    (resolve-element-returns-3 t)
+    (resolve-element-same-length-3 t)
+    (resolve-element-same-length-4 t)
+    (resolve-element-returns-4 t)
