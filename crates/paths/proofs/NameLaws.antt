@@ -3,7 +3,7 @@
 use mathlib.Core.Path.{_≡_, refl, sym, ap, _∙_}
 use mathlib.Core.Bool.{Bool, true, false, cond, _||_}
 use mathlib.Core.List.{List, [], _∷_}
-use Prim.Native.Nat.{ℕ, _+_, _≤_, _<_}
+use Prim.Native.Nat.{ℕ, _+_, _-_, _≤_, _<_}
 use native.Mathlib.Omega.{arith}
 use native.Mathlib.Nat.{le-refl}
 use lib.Dec.{eqb, leb, ltb}
@@ -21,7 +21,8 @@ use Rattle.syntax.proofs.AccessorLaws.{children-are, find-here}
 use Rattle.rust_code.proofs.StandInLaws.{by-none}
 use Rattle.paths.specs.Names.{Placeholders, isStandIn, segmentIn, nameIn, containsTypeArguments, containsPlaceholder}
 
-children-few : (l : List ℕ) → length (childWords l) ≤ length l
+-- an element's children are shorter by itself
+pub children-few : (l : List ℕ) → length (childWords l) ≤ length l - 3
 children-few l = simp (length-take, length-drop) (omega arith)
 
 -- the children of any part's tree are the tree of its children's words

@@ -76,6 +76,13 @@ call-here i l h = rw (h, number-in 64 64 i l h) (omega arith)
 pub call-none : (c : Elems) → nodeIn 64 64 c ≡ false → 0 ≡ callNumber c
 call-none c h = rw h
 
+pub call-low : (i : ℕ) (l : List ℕ) → 3 ≤ length l → callNumber (elems i l) ≤ i + 1
+call-low i l h = rw (number-is i l h) (low (nodeIn 64 64 (elems i l)))
+  where
+    low : (b : Bool) → cond b (1 + i) 0 ≤ i + 1
+    low true = omega arith
+    low false = omega arith
+
 -- what a resolved path notes for its grandparent, which is known as a call
 abbrev noteIf : Bool → ℕ → ℕ → List Note
 noteIf b call path = cond b (record { element = call; value = path } ∷ []) []
