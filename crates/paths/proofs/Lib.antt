@@ -2,3 +2,4 @@
 pub mod NameLaws
 pub mod StepLaws
 pub mod WalkLaws
+pub mod TableLaws

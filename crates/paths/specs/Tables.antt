@@ -1,15 +1,17 @@
 -- The tables in which the code notes what resolving finds: one number an element, 0 where nothing is noted, else one more than the number
 -- noted last.
 -- Assumes nothing.
-use Prim.Native.Nat.{ℕ, _+_, _/_, _≤_}
+use Prim.Native.Nat.{ℕ, _+_, _/_, _≤_, _<_}
 use mathlib.Core.Path.{_≡_}
 use mathlib.Core.Bool.{Bool, true, cond, not}
 use mathlib.Core.List.{List, [], _∷_}
-use lib.ListN.{length, set}
-use Rattle.syntax.specs.Trees.{Elems}
+use lib.ListN.{length, set, getD}
+use Rattle.syntax.specs.Trees.{Elems, tree}
 use Rattle.syntax.specs.Accessors.{children, numberOf, nodeIn}
+use Rattle.facts.specs.declared.Owner.{Owner}
+use Rattle.facts.specs.Facts.{isFactList}
 use Rattle.paths.specs.Steps.{Side, step}
-use Rattle.paths.specs.Resolved.{failsAt, isUnresolved, Note, pathsAt, resolvedPaths, claimsAt, claims}
+use Rattle.paths.specs.Resolved.{failsAt, isUnresolved, Note, pathsAt, resolvedPaths, claimsAt, claims, calls, lastNote}
 
 -- notes written into a table, one after the other
 unfoldable pub noted : List Note → List ℕ → List ℕ
@@ -44,3 +46,15 @@ pub record Room (part : List ℕ) (number parent grandparent : ℕ) (paths calls
   pub within : 3 ≤ length part → number + length part / 3 ≤ length paths
   pub parent-within : parent ≤ length paths
   pub grandparent-within : grandparent ≤ length paths
+
+-- a list of words is the well-formed facts of a tree's words
+pub record HasFacts (words facts : List ℕ) : Type 0 where
+  pub owner : Owner
+  pub bytes : ℕ
+  pub good : isFactList owner (tree words) bytes facts ≡ true
+
+-- a whole tree of n elements: whether its paths resolve, and then both tables, which say of each element what was noted last
+pub record TablesOf (x : Side) (c : Elems) (n : ℕ) (r : Bool) (paths callsTable : List ℕ) : Type 0 where
+  pub answer : r ≡ not (isUnresolved x c)
+  pub path-notes : r ≡ true → (e : ℕ) → e < n → getD paths e 0 ≡ lastNote e (resolvedPaths x c)
+  pub call-notes : r ≡ true → (e : ℕ) → e < n → getD callsTable e 0 ≡ lastNote e (calls x c)

@@ -1,5 +1,6 @@
 // `resolve` of docs/src/src/resolving.rs.
 use crate::names;
+use crate::tables;
 use facts::index;
 use parsing::patterns::Pattern;
 use syntax::accessors;
@@ -10,11 +11,12 @@ ghost use Prim.Native.Nat.{ℕ, _/_, _≤_, _<_};
 ghost use lib.ListN.{length};
 ghost use Rattle.parsing.specs.Reading.{Var};
 ghost use Rattle.parsing.specs.Answers.{Eight, patternOf};
-ghost use Rattle.syntax.specs.Trees.{Elems, elems};
+ghost use Rattle.syntax.specs.Trees.{Elems, elems, tree};
+ghost use Rattle.syntax.specs.Checks.{WellFormed};
 ghost use Rattle.facts.specs.Keys.{Indexed};
 ghost use Rattle.paths.specs.Steps.{sideOf, pathPlace, byFact, step, PlacedBelow};
 ghost use Rattle.paths.specs.Resolved.{claimBy};
-ghost use Rattle.paths.specs.Tables.{noted, callNumber, AtElement, AtSiblings, Room};
+ghost use Rattle.paths.specs.Tables.{noted, callNumber, AtElement, AtSiblings, Room, HasFacts, TablesOf};
 
 // What resolving does at an element.
 pub enum Step {
@@ -182,4 +184,56 @@ pub fn resolve(
         }
     }
     true
+}
+
+// Resolves a whole tree, in tables of its own size.
+fn resolve_tree(
+    words: &[u32],
+    code: &[u8],
+    text: &[u8],
+    pattern: Pattern,
+    facts: &[u32],
+    index: &[u64],
+    paths: &mut [u32],
+    calls: &mut [u32],
+) -> bool
+    requires { ⌜ Eight pattern × Indexed (now facts) (now index) ⌝ }
+    requires { ⌜ (length (now words) / 3 ≤ 16383) × (length (now paths) ≡ length (now words) / 3) × (length (now calls) ≡ length (now words) / 3) ⌝ }
+    ensures { λ r. ⌜ ((vs : List Var) (ns : List ℕ) → pattern ≡ patternOf vs ns → TablesOf (sideOf (now (text .entry)) vs (now (code .entry)) (now (facts .entry))) (tree (now (words .entry))) (length (now (words .entry)) / 3) r (now (paths .exit)) (now (calls .exit))) ⌝ }
+{
+    tables::clear(paths);
+    tables::clear(calls);
+    resolve(words, 0, 0, 0, code, text, pattern, facts, index, paths, calls)
+}
+
+// Resolves a rule's tree: makes the facts' index, and the tables of the tree's elements. False is 22.
+pub fn resolve_pattern_tree(
+    words: &[u32],
+    code: &[u8],
+    text: &[u8],
+    pattern: Pattern,
+    facts: &[u32],
+    index: &mut [u64],
+    spare: &mut [u64],
+    paths: &mut [u32],
+    calls: &mut [u32],
+) -> bool
+    requires { ⌜ Eight pattern × WellFormed (now words) × HasFacts (now words) (now facts) ⌝ }
+    requires { ⌜ (length (now facts) / 4 ≤ length (now index)) × (length (now facts) / 4 ≤ length (now spare)) × (length (now words) / 3 ≤ length (now paths)) × (length (now words) / 3 ≤ length (now calls)) ⌝ }
+    ensures { λ _. ⌜ Indexed (now (facts .entry)) (now (index .exit)) ⌝ }
+    ensures { λ r. ⌜ ((vs : List Var) (ns : List ℕ) → pattern ≡ patternOf vs ns → TablesOf (sideOf (now (text .entry)) vs (now (code .entry)) (now (facts .entry))) (tree (now (words .entry))) (length (now (words .entry)) / 3) r (now (paths .exit)) (now (calls .exit))) ⌝ }
+{
+    let n = words.len() / 3;
+    let m = facts.len() / 4;
+    index::make_index(facts, &mut index[..m], &mut spare[..m]);
+    resolve_tree(
+        words,
+        code,
+        text,
+        pattern,
+        facts,
+        &index[..],
+        &mut paths[..n],
+        &mut calls[..n],
+    )
 }
