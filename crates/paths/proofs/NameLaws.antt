@@ -1,12 +1,12 @@
 -- A path from its children, and a test of it and its qualifiers, one after the other.
 -- Assumes nothing.
-use mathlib.Core.Path.{_≡_, refl, sym, ap, _∙_}
+use mathlib.Core.Path.{_≡_, refl, sym, _∙_}
 use mathlib.Core.Bool.{Bool, true, false, cond, _||_}
-use mathlib.Core.List.{List, [], _∷_}
+use mathlib.Core.List.{List, []}
 use Prim.Native.Nat.{ℕ, _+_, _-_, _≤_, _<_}
 use native.Mathlib.Omega.{arith}
 use native.Mathlib.Nat.{le-refl}
-use lib.Dec.{eqb, leb, ltb}
+use lib.Dec.{eqb, leb}
 use lib.ListN.{length, length-take, length-drop}
 use borrow.Author.Tests.{ne-eqb, leb-true, le-ltb}
 use Rattle.words.specs.Texts.{sameText}
@@ -17,7 +17,7 @@ use Rattle.syntax.specs.Trees.{Elems, none, token, node, elems}
 use Rattle.syntax.specs.Accessors.{children, textOf, some, between, findNode, firstToken}
 use Rattle.syntax.proofs.PartLaws.{children-shorter}
 use Rattle.syntax.proofs.TreeLaws.{elems-end}
-use Rattle.syntax.proofs.AccessorLaws.{children-are, find-here}
+use Rattle.syntax.proofs.AccessorLaws.{children-are}
 use Rattle.rust_code.proofs.StandInLaws.{by-none}
 use Rattle.paths.specs.Names.{Placeholders, isStandIn, segmentIn, nameIn, containsTypeArguments, containsPlaceholder}
 

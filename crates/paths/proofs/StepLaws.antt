@@ -1,11 +1,11 @@
 -- What resolving does at an element, by the tests that the code makes, and what it notes there.
 -- Assumes nothing.
-use mathlib.Core.Path.{_≡_, refl, sym, ap, _∙_}
+use mathlib.Core.Path.{_≡_, refl, sym, _∙_}
 use mathlib.Core.Bool.{Bool, true, false, cond, _&&_, false≢true}
 use mathlib.Core.List.{List, [], _∷_}
 use Prim.Native.Nat.{ℕ, _+_, _-_, _/_, _%_, _≤_, _<_}
 use native.Mathlib.Omega.{arith}
-use lib.Dec.{eqb, ltb}
+use lib.Dec.{ltb}
 use lib.ListN.{length, set}
 use borrow.Author.Tests.{eq-eqb, ne-eqb, lt-ltb, le-ltb, ltb-true}
 use Rattle.words.specs.Fields.{isToken}
@@ -14,7 +14,6 @@ use Rattle.syntax.specs.Trees.{Elems, elems}
 use Rattle.syntax.specs.Accessors.{children, numberOf, nodeIn}
 use Rattle.syntax.proofs.TreeLaws.{elems-token, elems-node}
 use Rattle.syntax.proofs.AccessorLaws.{node-none}
-use Rattle.facts.specs.Facts.{factsOf}
 use Rattle.facts.proofs.FactLaws.{length-facts}
 use Rattle.paths.specs.Names.{isSelf, containsTypeArguments, containsPlaceholder}
 use Rattle.paths.specs.Steps.{Side, flagsAt, isAssociated, pathPlace, byFact, step}

@@ -1,6 +1,6 @@
 -- The tables: what stands at an element after notes, what it says, and the facts that a whole tree's tables rest on.
 -- Assumes nothing.
-use mathlib.Core.Path.{_≡_, refl, sym, ap, _∙_}
+use mathlib.Core.Path.{_≡_, refl, sym, _∙_}
 use mathlib.Core.Bool.{Bool, true, false, cond, not, _&&_}
 use mathlib.Core.List.{List, [], _∷_, _++_}
 use Prim.Native.Nat.{ℕ, zero, suc, _+_, _-_, _/_, _≤_, _<_}
@@ -63,7 +63,7 @@ module _ (x : Side) (c : Elems) (n : ℕ) (r : Bool) (p k : List ℕ) where
   tables-of a b ea eb w = record {
     answer = w .answer;
     path-notes = λ t e h. rw (w .noting t, ea) (noted-clear _ n e h);
-    call-notes = λ t e h. rw (w .claiming t none none refl refl, eb) (noted-clear _ n e h)
+    call-notes = λ t e h. rw (w .claiming t none none refl refl, eb) (noted-clear _ n e h);
   }
 
   -- with more behind them
@@ -71,7 +71,7 @@ module _ (x : Side) (c : Elems) (n : ℕ) (r : Bool) (p k : List ℕ) where
   tables-more q j hp hk w = record {
     answer = w .answer;
     path-notes = λ t e h. List·getD-append p q 0 e (omega (arith, h, hp)) ∙ w .path-notes t e h;
-    call-notes = λ t e h. List·getD-append k j 0 e (omega (arith, h, hk)) ∙ w .call-notes t e h
+    call-notes = λ t e h. List·getD-append k j 0 e (omega (arith, h, hk)) ∙ w .call-notes t e h;
   }
 
 -- ---- what a number of a table says

@@ -1,6 +1,6 @@
 -- The walk over a tree: what it leaves in the tables, from an element and from what follows it.
 -- Assumes nothing.
-use mathlib.Core.Path.{_≡_, refl, sym, ap, _∙_}
+use mathlib.Core.Path.{_≡_, refl, sym, _∙_}
 use mathlib.Core.Bool.{Bool, true, false, not, _||_, false≢true}
 use mathlib.Core.List.{List, [], _∷_, _++_}
 use Prim.Native.Nat.{ℕ, _+_, _≤_, _<_}
@@ -14,7 +14,7 @@ use Rattle.syntax.proofs.TreeLaws.{elems-end}
 use Rattle.syntax.proofs.AccessorLaws.{rest-are, some-is}
 use Rattle.paths.specs.Steps.{Side, flagsAt, step}
 use Rattle.paths.specs.Resolved.{Note, failsAt, isUnresolved, pathsAt, resolvedPaths, claimBy, claimsAt, claims}
-use Rattle.paths.specs.Tables.{noted, callNumber, Leaves, AtElement, AtSiblings}
+use Rattle.paths.specs.Tables.{noted, callNumber, Leaves, AtElement, AtSiblings, Room}
 use Rattle.paths.specs.declared.resolving.Step.the-variants.{Skips, Fails, Resolves, Enters}
 use Rattle.paths.proofs.StepLaws.{number-is}
 
@@ -39,7 +39,7 @@ module _ (f h : Bool) (ns ms : List Note) (k l : Elems → Elems → List Note) 
   leaves-then r p″ c″ a b = record {
     answer = b .answer ∙ sym (not-or f h (a .answer));
     noting = λ t. b .noting t ∙ rw (a .noting refl) (sym (noted-append ns ms p));
-    claiming = λ t x y e g. b .claiming t x y e g ∙ rw (a .claiming refl x y e g) (sym (noted-append (k x y) (l x y) c))
+    claiming = λ t x y e g. b .claiming t x y e g ∙ rw (a .claiming refl x y e g) (sym (noted-append (k x y) (l x y) c));
   }
 
   leaves-stop : Leaves f ns k parent grandparent false p p′ c c′ → Leaves (f || h) (ns ++ ms) (λ x y. k x y ++ l x y) parent grandparent false p p′ c c′
@@ -94,3 +94,7 @@ module _ (x : Side) (parent grandparent : ℕ) where
     pub element-enters : (r : Bool) (call : ℕ) (d : Elems) → Enters ≡ step x c → call ≡ callNumber c → d ≡ children c
         → AtSiblings x d call parent r p p′ k k′ → AtElement x c i parent grandparent r p p′ k k′
     element-enters r call d s e f w = rw (← s, ← f) (record { answer = w .answer; noting = w .noting; claiming = λ t u g v z. w .claiming t c u e v })
+
+-- the first of siblings within the tables
+pub first-within : {l : List ℕ} {i a b : ℕ} {p k : List ℕ} → Room l i a b p k → 3 ≤ length l → (i < length p) × (i < 16383)
+first-within room h = let w = room .within h in (omega arith, omega (arith, room .few))

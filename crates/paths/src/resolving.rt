@@ -203,7 +203,19 @@ fn resolve_tree(
 {
     tables::clear(paths);
     tables::clear(calls);
-    resolve(words, 0, 0, 0, code, text, pattern, facts, index, paths, calls)
+    resolve(
+        words,
+        0,
+        0,
+        0,
+        code,
+        text,
+        pattern,
+        facts,
+        index,
+        paths,
+        calls,
+    )
 }
 
 // Resolves a rule's tree: makes the facts' index, and the tables of the tree's elements. False is 22.

@@ -2,7 +2,7 @@
 -- siblings than for their first element. The loop's invariant: any state of the tables that is right for what is left is right for the part.
 -- Assumes nothing.
 use native.Mathlib.Nat.{le-refl}
-use lib.ListN.{length-set}
+use lib.ListN.{length-set, length}
 use Rattle.facts.proofs.FactLaws.{length-facts}
 use Rattle.paths.proofs.StepLaws.{call-low}
 use mathlib.Core.Path.{_≡_, refl, sym, ap, _∙_}
@@ -12,16 +12,15 @@ use Prim.Native.Nat.{ℕ, _+_, _-_, _*_, _/_, _≤_, _<_}
 use native.Mathlib.Omega.{arith}
 use borrow.Author.Needs.{needs}
 use denote.Ref.{now}
-use lib.ListN.{length, set}
 use Rattle.parsing.specs.Reading.{Var}
 use Rattle.parsing.specs.Answers.{patternOf}
-use Rattle.syntax.specs.Parts.{span, childWords, restWords}
-use Rattle.syntax.specs.Trees.{Elems, elems}
-use Rattle.syntax.proofs.PartLaws.{span-pos, span-few, length-rest, rest-shorter, children-shorter}
-use Rattle.paths.specs.Steps.{sideOf, step}
-use Rattle.paths.specs.Tables.{callNumber, AtSiblings}
+use Rattle.syntax.specs.Parts.{span}
+use Rattle.syntax.specs.Trees.{elems}
+use Rattle.syntax.proofs.PartLaws.{span-few, length-rest, rest-shorter}
+use Rattle.paths.specs.Steps.{sideOf}
+use Rattle.paths.specs.Tables.{AtSiblings}
 use Rattle.paths.proofs.NameLaws.{children-few, children-of}
-use Rattle.paths.proofs.WalkLaws.{siblings-end, siblings-stop, siblings-then, element-skips, element-fails, element-resolves, element-enters}
+use Rattle.paths.proofs.WalkLaws.{first-within, siblings-end, siblings-stop, siblings-then, element-skips, element-fails, element-resolves, element-enters}
 use borrow.Fn.Kinds.{In}
 use borrow.Fn.PlainCycle.{Measures, is, falls, and}
 use Rattle.paths.proofs.resolving.resolve.Reads as resolve
@@ -87,46 +86,84 @@ resolve-μ-loop part number parent grandparent code text pattern facts index pat
     length c
 
 resolve-loop-holds : (t : ℕ) → resolve-lts.Need-loop-holds (resolve-claims t) (resolve-at t) resolve.Post resolve-Inv-loop resolve-μ-loop
-resolve-loop-holds t c = (le-refl _, refl, refl, c .before .before .before .before .before .before .before .pre .1 .1 .within, λ vs ns e r p k w. w)
+resolve-loop-holds t c =
+    let c₇ = c .before .before .before .before .before .before .before in
+    (le-refl _, refl, refl, c₇ .pre .1 .1 .within, λ vs ns e r p k w. w)
 
 resolve-resolve-element-requires : (t : ℕ) → resolve-lts.Need-resolve-element-requires (resolve-claims t) (resolve-at t) resolve.Post resolve-Inv-loop resolve-μ-loop
 resolve-resolve-element-requires t c κs =
-    let l = c .before .before .before .loop in
-    let room = c .before .before .before .before .before .before .before .before .before .before .before .pre .1 .1 in
-    (omega (arith, l .inv .0, c .before .before .before .before .before .before .before .before .before .before .before .pre .0), (c .before .before .before .before .before .before .before .before .before .before .before .pre .1 .0, (record { few = omega (arith, l .inv .1, room .few); same = l .inv .2 ∙ room .same ∙ sym (l .inv .1); within = l .inv .3; parent-within = omega (arith, l .inv .1, room .parent-within); grandparent-within = omega (arith, l .inv .1, room .grandparent-within) }, c .before .before .loop-test .taken)))
-
-resolve-span-of-requires : (t : ℕ) → resolve-lts.Need-span-of-requires (resolve-claims t) (resolve-at t) resolve.Post resolve-Inv-loop resolve-μ-loop
-resolve-span-of-requires t c κs = tt
+    let c₂ = c .before .before in let c₃ = c₂ .before in
+    let c₁₁ = c₃ .before .before .before .before .before .before .before .before in
+    let l = c₃ .loop in let room = c₁₁ .pre .1 .1 in (
+      omega (arith, l .inv .0, c₁₁ .pre .0),
+      (
+        c₁₁ .pre .1 .0,
+        (
+          record {
+            few = omega (
+              arith,
+              l .inv .1,
+              room .few,
+            );
+            same = l .inv .2 ∙ room .same ∙ sym (l .inv .1);
+            within = l .inv .3;
+            parent-within = omega (
+              arith,
+              l .inv .1,
+              room .parent-within,
+            );
+            grandparent-within = omega (arith, l .inv .1, room .grandparent-within);
+          },
+          c₂ .loop-test .taken,
+        ),
+      ),
+    )
 
 resolve-add-at : (t : ℕ) → resolve-lts.Need-add-at (resolve-claims t) (resolve-at t) resolve.Post resolve-Inv-loop resolve-μ-loop
-resolve-add-at t c = let l = c .before .before .before .before .before .before .before .before .before .before .loop in omega (arith, l .inv .3 (c .before .before .before .before .before .before .before .before .before .loop-test .taken), l .inv .1, c .before .before .before .before .before .before .before .before .before .before .before .before .before .before .before .before .before .before .pre .1 .1 .few, c .span-of .ensures, span-few (now (l .c)))
-
-resolve-rest-requires : (t : ℕ) → resolve-lts.Need-rest-requires (resolve-claims t) (resolve-at t) resolve.Post resolve-Inv-loop resolve-μ-loop
-resolve-rest-requires t c κs = tt
+resolve-add-at t c =
+    let c₉ = c .before .before .before .before .before .before .before .before .before in let c₁₀ = c₉ .before in
+    let c₁₈ = c₁₀ .before .before .before .before .before .before .before .before in
+    let l = c₁₀ .loop in omega (arith, l .inv .3 (c₉ .loop-test .taken), l .inv .1, c₁₈ .pre .1 .1 .few, c .span-of .ensures, span-few (now (l .c)))
 
 resolve-loop-less : (t : ℕ) → resolve-lts.Need-loop-less (resolve-claims t) (resolve-at t) resolve.Post resolve-Inv-loop resolve-μ-loop
-resolve-loop-less t c = omega (arith, ap length (c .rest .ensures), rest-shorter (now (c .before .before .before .before .before .before .before .before .before .before .before .loop .c)) (omega (arith, c .before .before .before .before .before .before .before .before .before .before .loop-test .taken)))
+resolve-loop-less t c =
+    let c₁₀ = c .before .before .before .before .before .before .before .before .before .before in let c₁₁ = c₁₀ .before in
+    omega (arith, ap length (c .rest .ensures), rest-shorter (now (c₁₁ .loop .c)) (omega (arith, c₁₀ .loop-test .taken)))
 
 resolve-loop-again : (t : ℕ) → resolve-lts.Need-loop-again (resolve-claims t) (resolve-at t) resolve.Post resolve-Inv-loop resolve-μ-loop
 resolve-loop-again t c =
-    let l = c .before .before .before .before .before .before .before .before .before .before .before .loop in
-    let h = c .before .before .before .before .before .before .before .before .before .before .loop-test .taken in
-    let s = c .before .before .before .before .before .before .before .resolve-element in
-    let n : length (now (c .rest .result)) ≡ length (now (l .c)) - span (now (l .c)) * 3 = ap length (c .rest .ensures) ∙ length-rest (now (l .c)) in
-    (omega (arith, n, l .inv .0), s .ensures .0 .0 ∙ l .inv .1, s .ensures .0 .1 ∙ l .inv .2, λ k. omega (arith, k, n, l .inv .3 h, c .before .span-of .ensures, s .ensures .0 .0), λ vs ns e r p k w.
-    l .inv .4 vs ns e r p k (siblings-then _ _ _ (l .at) (now (l .c)) (l .paths) _ (l .calls) _ h (c .before .span-of .result) (now (c .rest .result)) (c .before .span-of .ensures) (c .rest .ensures) (rw (c .before .before .if1 .taken) at (s .ensures .1 vs ns e)) r p k w))
+    let c₁ = c .before in let c₂ = c₁ .before in let c₇ = c₂ .before .before .before .before .before in
+    let c₁₀ = c₇ .before .before .before in let c₁₁ = c₁₀ .before in
+    let l = c₁₁ .loop in let h = c₁₀ .loop-test .taken in let s = c₇ .resolve-element in let n : length (now (c .rest .result)) ≡ length (now (l .c))
+    - span (now (l .c)) * 3 = ap length (c .rest .ensures) ∙ length-rest (now (l .c)) in (
+      omega (arith, n, l .inv .0),
+      s .ensures .0 .0 ∙ l .inv .1,
+      s .ensures .0 .1 ∙ l .inv .2,
+      λ k. omega (arith, k, n, l .inv .3 h, c₁ .span-of .ensures, s .ensures .0 .0),
+      λ vs ns e r p k w. l .inv .4 vs ns e
+          r p k (siblings-then _ _ _ (l .at) (now (l .c)) (l .paths) _ (l .calls) _ h (c₁ .span-of .result) (now (c .rest .result)) (c₁ .span-of .ensures)
+          (c .rest .ensures) (rw (c₂ .if1 .taken) at (s .ensures .1 vs ns e)) r p k w),
+    )
 
 resolve-same-length : (t : ℕ) → resolve-lts.Need-same-length (resolve-claims t) (resolve-at t) resolve.Post resolve-Inv-loop resolve-μ-loop
-resolve-same-length t c = c .before .before .before .before .before .resolve-element .ensures .0 .0 ∙ c .before .before .before .before .before .before .before .before .before .loop .inv .1
+resolve-same-length t c =
+    let c₅ = c .before .before .before .before .before in let c₉ = c₅ .before .before .before .before in
+    c₅ .resolve-element .ensures .0 .0 ∙ c₉ .loop .inv .1
 
 resolve-same-length-2 : (t : ℕ) → resolve-lts.Need-same-length-2 (resolve-claims t) (resolve-at t) resolve.Post resolve-Inv-loop resolve-μ-loop
-resolve-same-length-2 t c = c .before .before .before .before .before .resolve-element .ensures .0 .1 ∙ c .before .before .before .before .before .before .before .before .before .loop .inv .2
+resolve-same-length-2 t c =
+    let c₅ = c .before .before .before .before .before in let c₉ = c₅ .before .before .before .before in
+    c₅ .resolve-element .ensures .0 .1 ∙ c₉ .loop .inv .2
 
 resolve-returns : (t : ℕ) → resolve-lts.Need-returns (resolve-claims t) (resolve-at t) resolve.Post resolve-Inv-loop resolve-μ-loop
 resolve-returns t c =
-    let l = c .before .before .before .before .before .before .before .before .before .loop in
-    let s = c .before .before .before .before .before .resolve-element in
-    ((s .ensures .0 .0 ∙ l .inv .1, s .ensures .0 .1 ∙ l .inv .2), λ vs ns e. l .inv .4 vs ns e false _ _ (siblings-stop _ _ _ (l .at) (now (l .c)) (l .paths) _ (l .calls) _ (c .before .before .before .before .before .before .before .before .loop-test .taken) (rw (c .if1 .left) at (s .ensures .1 vs ns e))))
+    let c₅ = c .before .before .before .before .before in let c₈ = c₅ .before .before .before in let c₉ = c₈ .before in
+    let l = c₉ .loop in let s = c₅ .resolve-element in (
+      (s .ensures .0 .0 ∙ l .inv .1, s .ensures .0 .1 ∙ l .inv .2),
+      λ vs ns e. l .inv .4 vs ns e
+          false _ _ (siblings-stop _ _ _ (l .at) (now (l .c)) (l .paths) _ (l .calls) _ (c₈ .loop-test .taken) (rw (c .if1 .left) at (s .ensures .1 vs ns
+          e))),
+    )
 
 resolve-same-length-3 : (t : ℕ) → resolve-lts.Need-same-length-3 (resolve-claims t) (resolve-at t) resolve.Post resolve-Inv-loop resolve-μ-loop
 resolve-same-length-3 t c = c .before .loop .inv .1
@@ -138,78 +175,143 @@ resolve-returns-2 : (t : ℕ) → resolve-lts.Need-returns-2 (resolve-claims t) 
 resolve-returns-2 t c = let l = c .before .loop in ((l .inv .1, l .inv .2), λ vs ns e. l .inv .4 vs ns e true _ _ (siblings-end _ _ _ (l .at) (now (l .c)) (l .paths) (l .paths) (l .calls) (l .calls) (c .loop-test .left)))
 
 resolve-element-step-at-requires : (t : ℕ) → resolve-element-lts.Need-step-at-requires (resolve-element-claims t) (resolve-element-at t) resolve-element.Post
-resolve-element-step-at-requires t c κs = c .before .before .before .before .before .before .before .pre .1 .0
-
-resolve-element-enum-told : (t : ℕ) → resolve-element-lts.Need-enum-told (resolve-element-claims t) (resolve-element-at t) resolve-element.Post
-resolve-element-enum-told t c = search needs
-
-resolve-element-enum-told-2 : (t : ℕ) → resolve-element-lts.Need-enum-told-2 (resolve-element-claims t) (resolve-element-at t) resolve-element.Post
-resolve-element-enum-told-2 t c = search needs
-
-resolve-element-enum-known-place : (t : ℕ) → resolve-element-lts.Need-enum-known-place (resolve-element-claims t) (resolve-element-at t) resolve-element.Post
-resolve-element-enum-known-place t c = search needs
+resolve-element-step-at-requires t c κs =
+    let c₇ = c .before .before .before .before .before .before .before in
+    c₇ .pre .1 .0
 
 resolve-element-add-paths : (t : ℕ) → resolve-element-lts.Need-add-paths (resolve-element-claims t) (resolve-element-at t) resolve-element.Post
-resolve-element-add-paths t c = let low = rw (c .before .place .given .1) at (c .before .before .before .step-at .ensures .1) in omega (arith, low, c .before .before .before .before .before .before .before .before .before .before .before .pre .1 .0 .1 .few, length-facts (now (c .before .before .before .before .before .before .before .before .before .before .before .args .facts)))
+resolve-element-add-paths t c =
+    let c₁ = c .before in let c₃ = c₁ .before .before in
+    let c₁₁ = c₃ .before .before .before .before .before .before .before .before in
+    let low = rw (c₁ .place .given .1) at (c₃ .step-at .ensures .1) in omega (
+      arith,
+      low,
+      c₁₁ .pre .1 .0 .1 .few,
+      length-facts (now
+          (c₁₁ .args .facts)),
+    )
 
 resolve-element-cast-paths : (t : ℕ) → resolve-element-lts.Need-cast-paths (resolve-element-claims t) (resolve-element-at t) resolve-element.Post
-resolve-element-cast-paths t c = let low = rw (c .before .place .given .1) at (c .before .before .before .step-at .ensures .1) in omega (arith, low, c .before .before .before .before .before .before .before .before .before .before .before .pre .1 .0 .1 .few, length-facts (now (c .before .before .before .before .before .before .before .before .before .before .before .args .facts)))
+resolve-element-cast-paths t c =
+    let c₁ = c .before in let c₃ = c₁ .before .before in
+    let c₁₁ = c₃ .before .before .before .before .before .before .before .before in
+    let low = rw (c₁ .place .given .1) at (c₃ .step-at .ensures .1) in omega (
+      arith,
+      low,
+      c₁₁ .pre .1 .0 .1 .few,
+      length-facts (now
+          (c₁₁ .args .facts)),
+    )
 
 resolve-element-mul-paths : (t : ℕ) → resolve-element-lts.Need-mul-paths (resolve-element-claims t) (resolve-element-at t) resolve-element.Post
-resolve-element-mul-paths t c = let s = c .before .before .before .before .before .before .before .before .before .before .before in omega (arith, s .pre .1 .1 .0 .within (s .pre .1 .1 .1), s .pre .1 .1 .1, s .pre .1 .1 .0 .few)
+resolve-element-mul-paths t c =
+    let c₁₁ = c .before .before .before .before .before .before .before .before .before .before .before in
+    omega (arith, first-within (c₁₁ .pre .1 .1 .0) (c₁₁ .pre .1 .1 .1))
 
 resolve-element-slice-write-paths : (t : ℕ) → resolve-element-lts.Need-slice-write-paths (resolve-element-claims t) (resolve-element-at t) resolve-element.Post
-resolve-element-slice-write-paths t c = let s = c .before .before .before .before .before .before .before .before .before .before .before in omega (arith, s .pre .1 .1 .0 .within (s .pre .1 .1 .1), s .pre .1 .1 .1)
-
-resolve-element-value-requires : (t : ℕ) → resolve-element-lts.Need-value-requires (resolve-element-claims t) (resolve-element-at t) resolve-element.Post
-resolve-element-value-requires t c κs = tt
+resolve-element-slice-write-paths t c =
+    let c₁₁ = c .before .before .before .before .before .before .before .before .before .before .before in
+    first-within (c₁₁ .pre .1 .1 .0) (c₁₁ .pre .1 .1 .1) .0
 
 resolve-element-note-call-requires : (t : ℕ) → resolve-element-lts.Need-note-call-requires (resolve-element-claims t) (resolve-element-at t) resolve-element.Post
-resolve-element-note-call-requires t c κs = let s = c .before .before .before .before .before .before .before .before .before .before .before .before .before in let room = s .pre .1 .1 .0 in (omega (arith, room .same, room .grandparent-within), omega (arith, room .within (s .pre .1 .1 .1), s .pre .1 .1 .1, room .few))
-
-resolve-element-enum-told-3 : (t : ℕ) → resolve-element-lts.Need-enum-told-3 (resolve-element-claims t) (resolve-element-at t) resolve-element.Post
-resolve-element-enum-told-3 t c = search needs
-
-resolve-element-children-requires : (t : ℕ) → resolve-element-lts.Need-children-requires (resolve-element-claims t) (resolve-element-at t) resolve-element.Post
-resolve-element-children-requires t c κs = tt
+resolve-element-note-call-requires t c κs =
+    let c₁₃ = c .before .before .before .before .before .before .before .before .before .before .before .before .before in
+    let room = c₁₃ .pre .1 .1 .0 in
+    (omega (arith, room .same, room .grandparent-within), first-within room (c₁₃ .pre .1 .1 .1) .1)
 
 resolve-element-add-resolve : (t : ℕ) → resolve-element-lts.Need-add-resolve (resolve-element-claims t) (resolve-element-at t) resolve-element.Post
-resolve-element-add-resolve t c = let s = c .before .before .before .before .before .before .before .before .before .before .before in omega (arith, s .pre .1 .1 .0 .within (s .pre .1 .1 .1), s .pre .1 .1 .1, s .pre .1 .1 .0 .few)
+resolve-element-add-resolve t c =
+    let c₁₁ = c .before .before .before .before .before .before .before .before .before .before .before in
+    omega (arith, first-within (c₁₁ .pre .1 .1 .0) (c₁₁ .pre .1 .1 .1))
 
 resolve-element-call-number-requires : (t : ℕ) → resolve-element-lts.Need-call-number-requires (resolve-element-claims t) (resolve-element-at t) resolve-element.Post
-resolve-element-call-number-requires t c κs = let s = c .before .before .before .before .before .before .before .before .before .before .before in omega (arith, s .pre .1 .1 .0 .within (s .pre .1 .1 .1), s .pre .1 .1 .1, s .pre .1 .1 .0 .few)
+resolve-element-call-number-requires t c κs =
+    let c₁₁ = c .before .before .before .before .before .before .before .before .before .before .before in
+    first-within (c₁₁ .pre .1 .1 .0) (c₁₁ .pre .1 .1 .1) .1
 
 resolve-element-resolve-requires : (t : ℕ) → resolve-element-lts.Need-resolve-requires (resolve-element-claims t) (resolve-element-at t) resolve-element.Post
 resolve-element-resolve-requires t c κs =
-    let s = c .before .before .before .before .before .before .before .before .before .before .before .before .before .before in
-    let room = s .pre .1 .1 .0 in
-    let h = s .pre .1 .1 .1 in
-    let n : length (now (c .before .before .before .children .result)) ≤ length (now (s .args .c)) - 3 = rw (c .before .before .before .children .ensures) (children-few (now (s .args .c))) in
-    (omega (arith, n, h, s .pre .0), (s .pre .1 .0, record { few = room .few; same = room .same; within = λ k. omega (arith, k, n, h, room .within h); parent-within = omega (arith, c .before .before .call-number .ensures, call-low (s .args .number) (now (s .args .c)) h, h, room .within h); grandparent-within = room .parent-within }))
+    let c₂ = c .before .before in let c₃ = c₂ .before in
+    let c₁₄ = c₃ .before .before .before .before .before .before .before .before .before .before .before in
+    let s = c₁₄ in
+    let room = s .pre .1 .1 .0 in let h = s .pre .1 .1 .1 in let n : length (now (c₃ .children .result)) ≤ length (now (s .args .c)) -
+    3 = rw (c₃ .children .ensures) (children-few (now (s .args .c))) in (
+      omega (arith, n, h, s .pre .0),
+      (
+        s .pre .1 .0,
+        record {
+          few = room .few;
+          same = room .same;
+          within = λ k. omega (arith, k, n, h, room .within h);
+          parent-within = omega (
+            arith,
+            c₂ .call-number .ensures,
+            call-low
+                (s .args .number) (now (s .args .c)) h,
+            h,
+            room .within h,
+          );
+          grandparent-within = room .parent-within;
+        },
+      ),
+    )
 
 resolve-element-returns : (t : ℕ) → resolve-element-lts.Need-returns (resolve-element-claims t) (resolve-element-at t) resolve-element.Post
-resolve-element-returns t c = let a = c .before .before .before .before .before .before .before .before .before .before .args in ((refl, refl), λ vs ns e. element-skips _ _ _ (elems (a .number) (now (a .c))) (a .number) (now (a .paths)) (now (a .paths)) (now (a .calls)) (now (a .calls)) (sym (c .enum-told .given .1) ∙ c .before .before .step-at .ensures .0 vs ns e))
+resolve-element-returns t c =
+    let c₂ = c .before .before in let c₁₀ = c₂ .before .before .before .before .before .before .before .before in
+    let a = c₁₀ .args in (
+      (refl, refl),
+      λ vs ns e. element-skips _ _ _ (elems (a .number) (now (a .c))) (a .number) (now (a .paths)) (now (a .paths))
+          (now (a .calls)) (now (a .calls)) (sym (c .enum-told .given .1) ∙ c₂ .step-at .ensures .0 vs ns e),
+    )
 
 resolve-element-returns-2 : (t : ℕ) → resolve-element-lts.Need-returns-2 (resolve-element-claims t) (resolve-element-at t) resolve-element.Post
-resolve-element-returns-2 t c = let a = c .before .before .before .before .before .before .before .before .before .before .args in ((refl, refl), λ vs ns e. element-fails _ _ _ (elems (a .number) (now (a .c))) (a .number) (now (a .paths)) (now (a .paths)) (now (a .calls)) (now (a .calls)) (sym (c .enum-told2 .given .1) ∙ c .before .before .step-at .ensures .0 vs ns e))
-
-resolve-element-same-length : (t : ℕ) → resolve-element-lts.Need-same-length (resolve-element-claims t) (resolve-element-at t) resolve-element.Post
-resolve-element-same-length t c = simp length-set
+resolve-element-returns-2 t c =
+    let c₂ = c .before .before in let c₁₀ = c₂ .before .before .before .before .before .before .before .before in
+    let a = c₁₀ .args in (
+      (refl, refl),
+      λ vs ns e. element-fails _ _ _ (elems (a .number) (now (a .c))) (a .number) (now (a .paths)) (now (a .paths))
+          (now (a .calls)) (now (a .calls)) (sym (c .enum-told2 .given .1) ∙ c₂ .step-at .ensures .0 vs ns e),
+    )
 
 resolve-element-same-length-2 : (t : ℕ) → resolve-element-lts.Need-same-length-2 (resolve-element-claims t) (resolve-element-at t) resolve-element.Post
-resolve-element-same-length-2 t c = c .before .before .note-call .ensures .0
+resolve-element-same-length-2 t c =
+    let c₂ = c .before .before in
+    c₂ .note-call .ensures .0
 
 resolve-element-returns-3 : (t : ℕ) → resolve-element-lts.Need-returns-3 (resolve-element-claims t) (resolve-element-at t) resolve-element.Post
-resolve-element-returns-3 t c = let a = c .before .before .before .before .before .before .before .before .before .before .before .before .before .before .before .before .args in ((simp length-set, c .before .before .note-call .ensures .0), λ vs ns e. element-resolves _ _ _ (elems (a .number) (now (a .c))) (a .number) (now (a .paths)) _ (now (a .calls)) (c .before .before .note-call .last .0) (c .before .before .before .before .before .before .place .given .0 .0) (sym (c .before .before .before .before .before .before .place .given .1) ∙ c .before .before .before .before .before .before .before .before .step-at .ensures .0 vs ns e) refl (λ g d. rw (← c .before .before .before .value .ensures) (c .before .before .note-call .ensures .1 g d)))
+resolve-element-returns-3 t c =
+    let c₂ = c .before .before in let c₃ = c₂ .before in let c₆ = c₃ .before .before .before in let c₈ = c₆ .before .before in
+    let c₁₆ = c₈ .before .before .before .before .before .before .before .before in
+    let a = c₁₆ .args in (
+      (simp length-set, c₂ .note-call .ensures .0),
+      λ vs ns e. element-resolves _ _ _ (elems (a .number) (now (a .c)))
+          (a .number) (now (a .paths)) _ (now (a .calls)) (c₂ .note-call .last .0) (c₆ .place .given .0 .0) (sym (c₆ .place .given .1) ∙
+          c₈ .step-at .ensures .0 vs ns e) refl (λ g d. rw (← c₃ .value .ensures) (c₂ .note-call .ensures .1 g d)),
+    )
 
 resolve-element-same-length-3 : (t : ℕ) → resolve-element-lts.Need-same-length-3 (resolve-element-claims t) (resolve-element-at t) resolve-element.Post
-resolve-element-same-length-3 t c = c .before .before .before .before .resolve .ensures .0 .0
+resolve-element-same-length-3 t c =
+    let c₄ = c .before .before .before .before in
+    c₄ .resolve .ensures .0 .0
 
 resolve-element-same-length-4 : (t : ℕ) → resolve-element-lts.Need-same-length-4 (resolve-element-claims t) (resolve-element-at t) resolve-element.Post
-resolve-element-same-length-4 t c = c .before .before .before .before .resolve .ensures .0 .1
+resolve-element-same-length-4 t c =
+    let c₄ = c .before .before .before .before in
+    c₄ .resolve .ensures .0 .1
 
 resolve-element-returns-4 : (t : ℕ) → resolve-element-lts.Need-returns-4 (resolve-element-claims t) (resolve-element-at t) resolve-element.Post
-resolve-element-returns-4 t c = let a = c .before .before .before .before .before .before .before .before .before .before .before .before .before .before .before .before .before .before .before .args in (c .before .before .before .before .resolve .ensures .0, λ vs ns e. element-enters _ _ _ (elems (a .number) (now (a .c))) (a .number) (now (a .paths)) _ (now (a .calls)) _ (c .before .before .before .before .resolve .result) (c .before .before .before .before .before .before .before .call-number .result) (elems (a .number + 1) (now (c .before .before .before .before .before .before .before .before .children .result))) (sym (c .before .before .before .before .before .before .before .before .before .enum-told3 .given .1) ∙ c .before .before .before .before .before .before .before .before .before .before .before .step-at .ensures .0 vs ns e) (c .before .before .before .before .before .before .before .call-number .ensures) (children-of (a .number) _ _ _ refl (c .before .before .before .before .before .before .before .before .children .ensures)) (c .before .before .before .before .resolve .ensures .1 vs ns e))
+resolve-element-returns-4 t c =
+    let c₄ = c .before .before .before .before in let c₇ = c₄ .before .before .before in let c₈ = c₇ .before in
+    let c₉ = c₈ .before in let c₁₁ = c₉ .before .before in
+    let c₁₉ = c₁₁ .before .before .before .before .before .before .before .before in
+    let a = c₁₉ .args in (
+      c₄ .resolve .ensures .0,
+      λ vs ns e. element-enters _ _ _ (elems (a .number) (now (a .c))) (a .number) (now (a .paths)) _
+          (now (a .calls)) _ (c₄ .resolve .result) (c₇ .call-number .result) (elems (a .number + 1) (now (c₈ .children .result))) (sym
+          (c₉ .enum-told3 .given .1) ∙ c₁₁ .step-at .ensures .0 vs ns e) (c₇ .call-number .ensures) (children-of (a .number) _ _ _ refl
+          (c₈ .children .ensures)) (c₄ .resolve .ensures .1 vs ns e),
+    )
 
 pub +resolve+resolve-element-spec : {M : Type 1} → statement M
 +resolve+resolve-element-spec = close μ-resolve μ-resolve-element (λ t. resolve-lts.spec (resolve-claims t)
@@ -219,9 +321,9 @@ pub +resolve+resolve-element-spec : {M : Type 1} → statement M
     resolve-μ-loop
     (resolve-loop-holds t)
     (resolve-resolve-element-requires t)
-    (resolve-span-of-requires t)
+    (λ c κs. tt)
     (resolve-add-at t)
-    (resolve-rest-requires t)
+    (λ c κs. tt)
     (resolve-loop-less t)
     (resolve-loop-again t)
     (resolve-same-length t)
@@ -234,23 +336,23 @@ pub +resolve+resolve-element-spec : {M : Type 1} → statement M
     (resolve-element-at t)
     resolve-element.Post
     (resolve-element-step-at-requires t)
-    (resolve-element-enum-told t)
-    (resolve-element-enum-told-2 t)
-    (resolve-element-enum-known-place t)
+    (λ c. search needs)
+    (λ c. search needs)
+    (λ c. search needs)
     (resolve-element-add-paths t)
     (resolve-element-cast-paths t)
     (resolve-element-mul-paths t)
     (resolve-element-slice-write-paths t)
-    (resolve-element-value-requires t)
+    (λ c κs. tt)
     (resolve-element-note-call-requires t)
-    (resolve-element-enum-told-3 t)
-    (resolve-element-children-requires t)
+    (λ c. search needs)
+    (λ c κs. tt)
     (resolve-element-add-resolve t)
     (resolve-element-call-number-requires t)
     (resolve-element-resolve-requires t)
     (resolve-element-returns t)
     (resolve-element-returns-2 t)
-    (resolve-element-same-length t)
+    (λ c. simp length-set)
     (resolve-element-same-length-2 t)
     (resolve-element-returns-3 t)
     (resolve-element-same-length-3 t)

@@ -3,14 +3,12 @@
 use denote.Ref.{now}
 use mathlib.Core.Path.{_≡_, refl, _∙_}
 use mathlib.Core.List.{_++_, append-nil}
-use Prim.Native.Nat.{_≤_, _-_, _+_}
+use Prim.Native.Nat.{_≤_, _-_}
 use native.Mathlib.Omega.{arith}
 use borrow.Author.Fill.{fill-more}
 use lib.ListN.{length, drop, replicate, length-set, drop-of-length-le}
 use Rattle.paths.proofs.tables.clear.Statement.{statement}
 use Rattle.paths.proofs.tables.clear.Tie as tie
-use Rattle.paths.proofs.tables.clear.Reads as reads
-use Rattle.paths.proofs.tables.clear.Lts as lts
 
 abbrev Inv-loop : tie.InvT-loop
 Inv-loop table₀ i₀ table i = (i ≤ length table₀) × (length table ≡ length table₀) × (table ≡ replicate i 0 ++ drop i table₀)
@@ -21,26 +19,20 @@ abbrev μ-loop : tie.MeasureT-loop
 loop-holds : tie.Need-loop-holds Inv-loop μ-loop
 loop-holds c = (omega arith, refl, refl)
 
-mul-table : tie.Need-mul-table Inv-loop μ-loop
-mul-table c = omega arith
-
-slice-write-table : tie.Need-slice-write-table Inv-loop μ-loop
-slice-write-table c = omega arith
-
-add-i : tie.Need-add-i Inv-loop μ-loop
-add-i c = omega arith
-
-loop-less : tie.Need-loop-less Inv-loop μ-loop
-loop-less c = omega arith
-
 loop-again : tie.Need-loop-again Inv-loop μ-loop
-loop-again c = let l = c .before .loop in (omega arith, simp length-set (omega arith), rw (l .inv .2) (fill-more (l .i) 0 (now (c .before .before .args .table)) (omega arith)))
-
-same-length : tie.Need-same-length Inv-loop μ-loop
-same-length c = omega arith
+loop-again c =
+    let c₁ = c .before in let c₂ = c₁ .before in
+    let l = c₁ .loop in (omega arith, simp length-set (omega arith), rw (l .inv .2) (fill-more (l .i) 0 (now (c₂ .args .table)) (omega arith)))
 
 returns : tie.Need-returns Inv-loop μ-loop
-returns c = let l = c .before .loop in let t = now (c .before .before .args .table) in let e : l .i ≡ length t = omega arith in l .inv .2 ∙ rw (drop-of-length-le t {i = l .i} (omega arith), append-nil, e)
+returns c =
+    let c₁ = c .before in let c₂ = c₁ .before in
+    let l = c₁ .loop in let t = now (c₂ .args .table) in let e : l .i ≡ length t = omega arith in l .inv .2 ∙ rw (
+      drop-of-length-le t {i = l .i}
+          (omega arith),
+      append-nil,
+      e,
+    )
 
 pub clear-spec : {M : Type 1} → statement M
 clear-spec =
@@ -49,10 +41,10 @@ clear-spec =
     Inv-loop
     μ-loop
     loop-holds
-    mul-table
-    slice-write-table
-    add-i
-    loop-less
+    (λ c. omega arith)
+    (λ c. omega arith)
+    (λ c. omega arith)
+    (λ c. omega arith)
     loop-again
-    same-length
+    (λ c. omega arith)
     returns)
