@@ -4,8 +4,8 @@ use crate::parts;
 use crate::parts::Range;
 use words::fields;
 ghost use mathlib.Core.Path.{_≡_};
-ghost use Prim.Native.Nat.{ℕ, _+_, _*_, _<_};
-ghost use lib.ListN.{drop};
+ghost use Prim.Native.Nat.{ℕ, _+_, _*_, _<_, _≤_};
+ghost use lib.ListN.{length, drop};
 ghost use Rattle.syntax.specs.Trees.{elems, tree};
 ghost use Rattle.syntax.specs.Accessors.{children, rangeOf, nodeIn, tokenIn, hasKind, hasElement, findNode, firstToken, onlyIdent, elementAt, standing};
 ghost use Rattle.syntax.specs.Checks.{WellFormed};
@@ -82,6 +82,7 @@ pub fn contains(part: &[u32], node: bool, kind: u32) -> bool
 // The first node among siblings whose kind is from one number to another.
 pub fn find_node(part: &[u32], low: u32, high: u32) -> usize
     ensures { λ r. ⌜ ((i : ℕ) → elems (i + r) (drop (r * 3) (now (part .entry))) ≡ findNode low high (elems i (now (part .entry)))) ⌝ }
+    ensures { λ r. ⌜ r * 3 ≤ length (now (part .entry)) + 196605 ⌝ }
 {
     let mut at: usize = 0;
     let mut c = part;

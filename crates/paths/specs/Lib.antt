@@ -1,0 +1,4 @@
+pub mod Names
+pub mod Steps
+pub mod Resolved
+pub mod Tables
