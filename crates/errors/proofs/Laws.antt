@@ -57,6 +57,11 @@ pub turn-refuses : (a : Outcome) (rest : List Outcome) (r : Refusal) → a ≡ R
 unfolding inTurn
 turn-refuses a rest r h = rw h
 
+pub turn-both : (a : Outcome) (rest : List Outcome) → inTurn (a ∷ rest) ≡ Accepted → (a ≡ Accepted) × (inTurn rest ≡ Accepted)
+unfolding inTurn
+turn-both Accepted rest h = (refl, h)
+turn-both (Refused r) rest h = absurd (refused-not h)
+
 pub turn-last : (a : Outcome) → inTurn (a ∷ []) ≡ a
 unfolding inTurn
 turn-last Accepted = refl

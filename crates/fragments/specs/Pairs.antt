@@ -15,22 +15,30 @@ pub record Pair : Type 0 where
   pub words : List ℕ
   pub bytes : List ℕ
 
+abbrev pub pairOf : List ℕ → List ℕ → List ℕ → Pair
+pairOf row words bytes = record { row = row; words = words; bytes = bytes }
+
 -- what of a pair is in its words, and what in its bytes
 abbrev pub inWords : List ℕ → List ℕ → Pair
-inWords row words = record { row = row; words = words; bytes = [] }
+inWords row words = pairOf row words []
 
 abbrev pub inBytes : List ℕ → List ℕ → Pair
-inBytes row bytes = record { row = row; words = []; bytes = bytes }
+inBytes row bytes = pairOf row [] bytes
 
 -- n pairs, each behind the one before, and all of a directory's
 unfoldable pub pairsOf : ℕ → List ℕ → List ℕ → List ℕ → List Pair
 pairsOf zero directory words bytes = []
 pairsOf (suc n) directory words bytes =
-    record { row = directory; words = words; bytes = bytes }
+    pairOf directory words bytes
     ∷ pairsOf n (drop 27 directory) (drop (counted true directory) words) (drop (counted false directory) bytes)
 
 abbrev pub pairs : List ℕ → List ℕ → List ℕ → List Pair
 pairs directory words bytes = pairsOf (rowCount directory) directory words bytes
+
+-- the pair of a number, behind the ones before it
+unfoldable pub pairAt : ℕ → List ℕ → List ℕ → List ℕ → Pair
+pairAt zero directory words bytes = pairOf directory words bytes
+pairAt (suc n) directory words bytes = pairAt n (drop 27 directory) (drop (counted true directory) words) (drop (counted false directory) bytes)
 
 -- the words, or bytes, that an entry counts
 abbrev pub partOf : Bool → List ℕ → List ℕ → ℕ → List ℕ

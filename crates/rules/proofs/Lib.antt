@@ -1,3 +1,4 @@
-mod FormLaws
-mod StageLaws
-mod RuleLaws
+-- Laws of the definitions of specs/, for this crate and those above.
+pub mod FormLaws
+pub mod StageLaws
+pub mod RuleLaws

@@ -7,7 +7,7 @@ use Prim.Native.Nat.{ℕ, zero, suc, _+_, _-_, _≤_, _<_}
 use native.Mathlib.Omega.{arith}
 use lib.ListN.{length, drop, getD, length-append, length-map}
 use Rattle.fragments.specs.Directory.{counted}
-use Rattle.fragments.specs.Pairs.{Pair, pairsOf}
+use Rattle.fragments.specs.Pairs.{Pair, pairOf, pairsOf}
 use Rattle.rules.specs.Forms.{formsLeft}
 use Rattle.rules.specs.Numbering.{ruleOf, rulesFrom, ruleAt}
 use Rattle.rules.specs.declared.numbering.Rule.{Rule}
@@ -18,9 +18,6 @@ use Rattle.rules.specs.declared.numbering.Found.the-variants.{NoSuchRule
 pub rules-end : (k : ℕ) (d w b : List ℕ) → rulesFrom k (pairsOf 0 d w b) ≡ []
 unfolding rulesFrom pairsOf
 rules-end k d w b = refl
-
-abbrev pub pairOf : List ℕ → List ℕ → List ℕ → Pair
-pairOf d w b = record { row = d; words = w; bytes = b }
 
 abbrev pub othersOf : ℕ → List ℕ → List ℕ → List ℕ → List Pair
 othersOf n d w b = pairsOf (n - 1) (drop 27 d) (drop (counted true d) w) (drop (counted false d) b)

@@ -12,12 +12,12 @@ use Rattle.errors.specs.declared.Outcome.{Outcome}
 use Rattle.errors.specs.declared.Outcome.the-variants.{Accepted, Refused}
 use Rattle.errors.specs.declared.Refusal.{Refusal}
 use Rattle.errors.specs.Refusals.{numberOf, lowestOf, lowest, firstOf, inTurn}
-use Rattle.errors.proofs.Laws.{lowest-accepted, lowest-of-three, turn-passes, turn-refuses, turn-last}
+use Rattle.errors.proofs.Laws.{lowest-accepted, lowest-of-three, both-pass, turn-passes, turn-refuses, turn-both, turn-last}
 use Rattle.fragments.specs.Directory.{counted, isDirectory}
 use Rattle.errors.specs.declared.Refusal.the-variants.{MalformedList, NoForm}
 use Rattle.parsing.specs.Reading.{Element, Reading, read, refused, reading}
 use Rattle.trees.specs.Given.{rightText}
-use Rattle.fragments.specs.Pairs.{Pair, pairsOf, pairs, listOf, textOf, codeOf, isGiven, five}
+use Rattle.fragments.specs.Pairs.{Pair, pairOf, pairsOf, pairs, listOf, textOf, codeOf, isGiven, five}
 use Rattle.rules.specs.Forms.{hasRule}
 use Rattle.rules.specs.Stages.{formOutcome, sideOutcome, formsOutcome, pairStage, stageOutcome, directoryOutcome, rulesOutcome}
 use Rattle.rules.specs.declared.stages.Stage.{Stage}
@@ -61,19 +61,24 @@ module _ (stage : Stage) (m : ℕ) where
   stage-end d w b = refl
 
   stage-suc : (n : ℕ) (d w b : List ℕ)
-      → stageOutcome stage m (pairsOf (suc n) d w b) ≡ lowestOf (pairStage stage m (record { row = d; words = w; bytes = b })) (stageOutcome stage m (pairsOf n (drop 27 d) (drop (counted true d) w) (drop (counted false d) b)))
+      → stageOutcome stage m (pairsOf (suc n) d w b) ≡ lowestOf (pairStage stage m (pairOf d w b)) (stageOutcome stage m (pairsOf n (drop 27 d) (drop (counted true d) w) (drop (counted false d) b)))
   unfolding lowest pairsOf
   stage-suc n d w b = refl
 
   pub stage-next : (n : ℕ) (d w b : List ℕ) (a : Outcome) → 0 < n
       → lowestOf a (stageOutcome stage m (pairsOf n d w b))
-      ≡ lowestOf (lowestOf a (pairStage stage m (record { row = d; words = w; bytes = b }))) (stageOutcome stage m (pairsOf (n - 1) (drop 27 d) (drop (counted true d) w) (drop (counted false d) b)))
+      ≡ lowestOf (lowestOf a (pairStage stage m (pairOf d w b))) (stageOutcome stage m (pairsOf (n - 1) (drop 27 d) (drop (counted true d) w) (drop (counted false d) b)))
   stage-next zero d w b a h = absurd (omega arith)
   stage-next (suc n) d w b a h =
       let e : suc n - 1 ≡ n = omega arith in
-      let p = pairStage stage m (record { row = d; words = w; bytes = b }) in
+      let p = pairStage stage m (pairOf d w b) in
       let q = stageOutcome stage m (pairsOf n (drop 27 d) (drop (counted true d) w) (drop (counted false d) b)) in
       ap (lowestOf a) (stage-suc n d w b) ∙ sym (lowest-of-three a p q) ∙ rw e
+
+-- where a stage passes, its first pair does and the others do
+pub stage-both : (stage : Stage) (m n : ℕ) (d w b : List ℕ) → 0 < n → stageOutcome stage m (pairsOf n d w b) ≡ Accepted
+    → (pairStage stage m (pairOf d w b) ≡ Accepted) × (stageOutcome stage m (pairsOf (n - 1) (drop 27 d) (drop (counted true d) w) (drop (counted false d) b)) ≡ Accepted)
+stage-both stage m n d w b h e = both-pass _ _ (sym (stage-next stage m n d w b Accepted h) ∙ e)
 
 -- what rules go through before they are resolved: no directory, a stage that refuses, and the last stage
 module _ (trees : Stage) (m : ℕ) (d w b : List ℕ) where
@@ -93,3 +98,7 @@ module _ (trees : Stage) (m : ℕ) (d w b : List ℕ) where
 
   pub forms-decide : isDirectory d w b ≡ true → stageOutcome Lists m (pairs d w b) ≡ Accepted → stageOutcome trees m (pairs d w b) ≡ Accepted → rulesOutcome trees m d w b ≡ stageOutcome Forms m (pairs d w b)
   forms-decide h l t = turn-passes _ _ (passes-directory h) ∙ turn-passes _ _ l ∙ turn-passes _ _ t ∙ turn-last (stageOutcome Forms m (pairs d w b))
+
+  -- where all pass, the trees do
+  pub trees-pass : rulesOutcome trees m d w b ≡ Accepted → stageOutcome trees m (pairs d w b) ≡ Accepted
+  trees-pass h = turn-both _ _ (turn-both _ _ (turn-both _ _ h .1) .1) .0

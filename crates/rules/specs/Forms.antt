@@ -19,13 +19,7 @@ standIn p form = cond (eqb form 0 && isPresent 1 4 p) StandIn Missing
 abbrev pub templateTree : Pair → ℕ → TemplateTree
 templateTree p form = cond (isGiven 1 p) (cond (isPresent 1 form p) Own (standIn p form)) Absent
 
--- the form whose tree that is
-abbrev pub formOf : TemplateTree → ℕ → ℕ
-formOf Absent form = form
-formOf Own form = form
-formOf StandIn form = 4
-formOf Missing form = form
-
+-- it is there, or none is wanted
 abbrev pub isThere : TemplateTree → Bool
 isThere Absent = true
 isThere Own = true

@@ -12,7 +12,7 @@ ghost use mathlib.Core.Bool.{cond};
 ghost use mathlib.Core.List.{[]};
 ghost use Prim.Native.Nat.{_≤_};
 ghost use Rattle.errors.specs.Refusals.{lowest};
-ghost use Rattle.fragments.specs.Pairs.{inWords, pairs, five};
+ghost use Rattle.fragments.specs.Pairs.{pairOf, inWords, pairs, five};
 ghost use Rattle.rules.specs.Stages.{ownerOf, formOutcome, listsOutcome, sideOutcome, treesOutcome, formsOutcome, pairStage, stageOutcome, rulesOutcome};
 
 // A stage of checks.
@@ -101,7 +101,7 @@ fn check_side(
     fact_bytes: usize,
 ) -> Outcome
     requires { ⌜ side ≤ 1 ⌝ }
-    ensures { λ r. ⌜ r ≡ sideOutcome looked «fact_bytes» (record { row = now (row .entry); words = now (words .entry); bytes = now (bytes .entry) }) side ⌝ }
+    ensures { λ r. ⌜ r ≡ sideOutcome looked «fact_bytes» (pairOf (now (row .entry)) (now (words .entry)) (now (bytes .entry))) side ⌝ }
 {
     let code = pairs::code(row, bytes, side);
     if pairs::is_given(row, side) {
@@ -124,7 +124,7 @@ fn check_side(
 
 // The trees of a pair.
 fn check_trees(looked: bool, row: &[u32], words: &[u32], bytes: &[u8], fact_bytes: usize) -> Outcome
-    ensures { λ r. ⌜ r ≡ treesOutcome looked «fact_bytes» (record { row = now (row .entry); words = now (words .entry); bytes = now (bytes .entry) }) ⌝ }
+    ensures { λ r. ⌜ r ≡ treesOutcome looked «fact_bytes» (pairOf (now (row .entry)) (now (words .entry)) (now (bytes .entry))) ⌝ }
 {
     let pattern = check_side(looked, row, words, bytes, 0, fact_bytes);
     let template = check_side(looked, row, words, bytes, 1, fact_bytes);
@@ -133,7 +133,7 @@ fn check_trees(looked: bool, row: &[u32], words: &[u32], bytes: &[u8], fact_byte
 
 // The lists of a pair.
 fn check_lists(row: &[u32], words: &[u32], bytes: &[u8]) -> Outcome
-    ensures { λ r. ⌜ r ≡ listsOutcome (record { row = now (row .entry); words = now (words .entry); bytes = now (bytes .entry) }) ⌝ }
+    ensures { λ r. ⌜ r ≡ listsOutcome (pairOf (now (row .entry)) (now (words .entry)) (now (bytes .entry))) ⌝ }
 {
     validating::validate_rule(
         pairs::list(row, words, 0),
@@ -157,7 +157,7 @@ fn check_forms_left(row: &[u32], words: &[u32]) -> Outcome
 
 // A stage of one pair.
 fn check_pair(stage: Stage, row: &[u32], words: &[u32], bytes: &[u8], fact_bytes: usize) -> Outcome
-    ensures { λ r. ⌜ r ≡ pairStage stage «fact_bytes» (record { row = now (row .entry); words = now (words .entry); bytes = now (bytes .entry) }) ⌝ }
+    ensures { λ r. ⌜ r ≡ pairStage stage «fact_bytes» (pairOf (now (row .entry)) (now (words .entry)) (now (bytes .entry))) ⌝ }
 {
     match stage {
         Stage::Lists => check_lists(row, words, bytes),

@@ -4,7 +4,6 @@ use lib.ListN.{getD}
 use mathlib.Core.Bool.{Bool}
 use mathlib.Core.List.{List}
 use Prim.Native.Nat.{ℕ, _<_}
-use Rattle.rules.proofs.RuleLaws.{pairOf}
 use Rattle.rules.specs.declared.numbering.Found.the-variants.{At}
 use mathlib.Core.Path.{_≡_, _∙_, sym, ap, refl}
 use Prim.Native.Nat.{_-_, _+_, _*_, _≤_}

@@ -1,7 +1,7 @@
 -- `rules::stages::check_side` meets its contract.
 -- Assumes nothing.
 use mathlib.Core.Bool.{true}
-use Rattle.fragments.specs.Pairs.{Pair, listOf, textOf, isGiven}
+use Rattle.fragments.specs.Pairs.{Pair, pairOf}
 use Rattle.rules.proofs.StageLaws.{side-read, side-refused, side-absent}
 use mathlib.Core.Path.{_≡_, _∙_, sym, ap}
 use denote.Ref.{now}
@@ -52,13 +52,13 @@ check-forms-requires-2 : tie.Need-check-forms-requires-2
 check-forms-requires-2 c κs = search needs
 
 returns : tie.Need-returns
-returns c = let a = c .before .before .before .before .before .before .before .before .before .before .before .before .before .before .args in let w = now (c .before .before .before .before .before .before .before .list .result) in let t = now (c .before .before .before .before .before .before .text .result) in let q = c .before .before .before .before .before .parse-pattern in let x = was-read (reading w t) (q .result) (q .ensures .0) (c .before .before .before .enum-told .given .1) in let p : Pair = record { row = now (a .row); words = now (a .words); bytes = now (a .bytes) } in c .check-forms .ensures ∙ rw (c .before .is-tree-text .ensures (x .elements) (x .is) (x .shows)) (sym (side-read (a .looked) (a .fact-bytes) p (a .side) w t (now (c .before .before .before .before .before .before .before .before .before .before .code .result)) (x .elements) (c .before .before .before .before .before .before .before .list .ensures) (c .before .before .before .before .before .before .text .ensures) (c .before .before .before .before .before .before .before .before .before .before .code .ensures) (sym (c .before .before .before .before .before .before .before .before .before .is-given .ensures) ∙ c .before .before .before .before .before .before .before .before .if1 .taken) (x .is)))
+returns c = let a = c .before .before .before .before .before .before .before .before .before .before .before .before .before .before .args in let w = now (c .before .before .before .before .before .before .before .list .result) in let t = now (c .before .before .before .before .before .before .text .result) in let q = c .before .before .before .before .before .parse-pattern in let x = was-read (reading w t) (q .result) (q .ensures .0) (c .before .before .before .enum-told .given .1) in let p : Pair = pairOf (now (a .row)) (now (a .words)) (now (a .bytes)) in c .check-forms .ensures ∙ rw (c .before .is-tree-text .ensures (x .elements) (x .is) (x .shows)) (sym (side-read (a .looked) (a .fact-bytes) p (a .side) w t (now (c .before .before .before .before .before .before .before .before .before .before .code .result)) (x .elements) (c .before .before .before .before .before .before .before .list .ensures) (c .before .before .before .before .before .before .text .ensures) (c .before .before .before .before .before .before .before .before .before .before .code .ensures) (sym (c .before .before .before .before .before .before .before .before .before .is-given .ensures) ∙ c .before .before .before .before .before .before .before .before .if1 .taken) (x .is)))
 
 returns-2 : tie.Need-returns-2
-returns-2 c = let a = c .before .before .before .before .before .before .before .before .before .before .before .before .args in let w = now (c .before .before .before .before .before .list .result) in let t = now (c .before .before .before .before .text .result) in let q = c .before .before .before .parse-pattern in let x = was-refused (reading w t) (q .result) _ (q .ensures .0) (c .before .outcome .given .1) in let p : Pair = record { row = now (a .row); words = now (a .words); bytes = now (a .bytes) } in sym (side-refused (a .looked) (a .fact-bytes) p (a .side) w t _ (c .before .before .before .before .before .list .ensures) (c .before .before .before .before .text .ensures) (sym (c .before .before .before .before .before .before .before .is-given .ensures) ∙ c .before .before .before .before .before .before .if1 .taken) x)
+returns-2 c = let a = c .before .before .before .before .before .before .before .before .before .before .before .before .args in let w = now (c .before .before .before .before .before .list .result) in let t = now (c .before .before .before .before .text .result) in let q = c .before .before .before .parse-pattern in let x = was-refused (reading w t) (q .result) _ (q .ensures .0) (c .before .outcome .given .1) in let p : Pair = pairOf (now (a .row)) (now (a .words)) (now (a .bytes)) in sym (side-refused (a .looked) (a .fact-bytes) p (a .side) w t _ (c .before .before .before .before .before .list .ensures) (c .before .before .before .before .text .ensures) (sym (c .before .before .before .before .before .before .before .is-given .ensures) ∙ c .before .before .before .before .before .before .if1 .taken) x)
 
 returns-3 : tie.Need-returns-3
-returns-3 c = let a = c .before .before .before .before .before .before .before .args in let p : Pair = record { row = now (a .row); words = now (a .words); bytes = now (a .bytes) } in c .check-forms2 .ensures ∙ sym (side-absent (a .looked) (a .fact-bytes) p (a .side) (now (c .before .before .before .code .result)) (c .before .before .before .code .ensures) (sym (c .before .before .is-given .ensures) ∙ c .before .if1 .left))
+returns-3 c = let a = c .before .before .before .before .before .before .before .args in let p : Pair = pairOf (now (a .row)) (now (a .words)) (now (a .bytes)) in c .check-forms2 .ensures ∙ sym (side-absent (a .looked) (a .fact-bytes) p (a .side) (now (c .before .before .before .code .result)) (c .before .before .before .code .ensures) (sym (c .before .before .is-given .ensures) ∙ c .before .if1 .left))
 
 pub check-side-spec : {M : Type 1} → statement M
 check-side-spec =

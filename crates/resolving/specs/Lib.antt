@@ -1,0 +1,3 @@
+pub mod RulePaths
+pub mod Resolving
+pub mod Needs
