@@ -13,6 +13,7 @@ use judge::{Backing, Sides, WholeRules};
 use crate::for_each_case;
 use crate::library::rules::{build_rules, resolve};
 use tally::Tally;
+pub use tally::sort;
 
 /// About the most elements of the first tree of a generated side.
 const MOST: usize = 40;
@@ -31,7 +32,7 @@ pub enum Operation {
     Resolving,
 }
 
-const OPERATIONS: [Operation; 2] = [Operation::Building, Operation::Resolving];
+pub const OPERATIONS: [Operation; 2] = [Operation::Building, Operation::Resolving];
 
 /// What an operation is asked for; building looks at the rule alone.
 #[derive(Clone, Copy, Debug, Default)]
@@ -71,6 +72,14 @@ impl Operation {
         }
     }
 
+    /// How the crate and the checker disagree and should not.
+    pub fn disagreement(self, whole: &WholeRules) -> Option<&str> {
+        match self.backing(whole) {
+            Backing::Other(what) => Some(what),
+            _ => None,
+        }
+    }
+
     /// The number of the refusal, 0 where nothing refuses.
     pub fn number(self, whole: &WholeRules) -> u32 {
         match self.judged(whole, Question::default()) {
@@ -80,7 +89,7 @@ impl Operation {
     }
 
     /// Every question that has an answer of its own, and some that ask for what is not there.
-    fn questions(self, whole: &WholeRules) -> Vec<Question> {
+    pub fn questions(self, whole: &WholeRules) -> Vec<Question> {
         let rule = |rule| Question { rule, ..Question::default() };
         match (self, &whole.built.answer, &whole.resolved.answer) {
             (Operation::Building, Ok(built), _) => {

@@ -18,6 +18,7 @@ mod pairs;
 mod parse;
 mod parts;
 mod rng;
+pub mod rule_vectors;
 mod tiny;
 mod tokens;
 pub mod tree_limits;

@@ -67,3 +67,10 @@ fn harmless_damage_changes_no_number() {
     }
     assert_eq!(met.len(), 3);
 }
+
+#[test]
+fn vectors_have_their_numbers() {
+    for (name, rules, expected) in generator::rule_vectors::all() {
+        assert_eq!(numbers(&rules), expected, "{name}");
+    }
+}

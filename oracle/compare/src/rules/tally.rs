@@ -121,7 +121,7 @@ impl Counts {
 }
 
 /// What an answer says, without its numbers.
-fn sort(answer: &Answer) -> &'static str {
+pub fn sort(answer: &Answer) -> &'static str {
     match answer {
         Answer::Built { asked: None, .. } => "built: no such rule",
         Answer::Built { asked: Some(rule), .. } => match rule.template {
