@@ -6,13 +6,13 @@ use crate::parts::*;
 use crate::rng::Rng;
 use input::build::{Syntax, node, token};
 
-/// What a node is that is none of those that resolving looks at; PATH (2) is among them all the same.
-const NODES: [u32; 9] =
-    [PATH, ARG_LIST, PATH_EXPR, PATH_EXPR, BIN_EXPR, FN, EXPR_STMT, PATH_TYPE, 10];
+/// Kinds of nodes, PATH (2) and SELF's number (11) among them.
+const NODES: [u32; 10] =
+    [PATH, ARG_LIST, PATH_EXPR, PATH_EXPR, BIN_EXPR, FN, EXPR_STMT, PATH_TYPE, 10, 11];
 
-/// The kinds of a token that may be a name.
-const TOKENS: [u32; 11] =
-    [IDENT, IDENT, IDENT, IDENT, IDENT, WHITESPACE, COMMENT, SELF, NUMBER, STRING, 1023];
+/// The kinds of a token that may be a name, with the numbers of the nodes that are looked for.
+const TOKENS: [u32; 12] =
+    [IDENT, IDENT, IDENT, IDENT, WHITESPACE, COMMENT, COMMA, R_PAREN, SELF, NUMBER, STRING, 1023];
 
 /// A placeholder's name that no list declares.
 const UNDECLARED: &str = "q";
@@ -102,9 +102,7 @@ impl Odd<'_> {
         if self.rng.chance(6) && self.more(100) {
             children.push(self.path());
         }
-        if self.rng.chance(6) {
-            children.insert(0, self.any());
-        }
+        self.before(&mut children);
         node(PATH, children)
     }
 
@@ -117,10 +115,17 @@ impl Odd<'_> {
             let inside = if self.more(70) { vec![mark("<"), self.any()] } else { Vec::new() };
             children.push(node(GENERIC_ARGS, inside));
         }
-        if self.rng.chance(5) {
-            children.insert(0, self.any());
-        }
+        self.before(&mut children);
         node(PATH_SEGMENT, children)
+    }
+
+    /// Now and then a token or something else before all children.
+    fn before(&mut self, children: &mut Vec<Syntax>) {
+        match self.rng.below(20) {
+            0 => children.insert(0, self.any()),
+            1 => children.insert(0, self.name()),
+            _ => {}
+        }
     }
 
     fn name_ref(&mut self) -> Syntax {
