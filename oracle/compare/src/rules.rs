@@ -6,8 +6,9 @@ mod tally;
 use std::collections::BTreeMap;
 
 use generator::bent_rules::{bend_copy, is_harmless};
-use generator::odd_rules;
+use generator::{odd_rules, rule_vectors};
 use input::{Answer, Rules, pairs};
+use judge::predicates::{Difference, of_rules};
 use judge::{Backing, Sides, WholeRules};
 
 use crate::for_each_case;
@@ -17,6 +18,8 @@ pub use tally::sort;
 
 /// About the most elements of the first tree of a generated side.
 const MOST: usize = 40;
+/// The most elements of a tree of which all are asked for.
+const LARGE: usize = 2_000;
 /// Damaged copies of one case.
 const COPIES: u64 = 8;
 
@@ -105,25 +108,48 @@ impl Operation {
     }
 }
 
-/// Every element of both sides and one past the last, and what no rule has.
+/// Every element of both sides and one past the last, and what no rule has. Of the largest trees not
+/// every element.
 fn of_rule(rule: usize, sides: &Sides) -> Vec<Question> {
     let mut all = NO_SIDE.map(|side| Question { rule, side, element: 0 }).to_vec();
     for (side, of) in (0..).zip(sides) {
         let elements = of.as_ref().map_or(0, |side| side.elements);
+        let inside = (0..elements).step_by(1 + elements / LARGE);
         let element = |element| Question { rule, side, element };
-        all.extend((0..=elements).chain(NO_NUMBER).map(element));
+        all.extend(inside.chain([elements]).chain(NO_NUMBER).map(element));
     }
     all
 }
 
-/// The rules of every case of a corpus.
+/// The rules of every case of a corpus; where a real build had rules left, the library has the same.
 pub fn corpus() -> Result<bool, String> {
     let mut tally = Tally::default();
+    let (mut equal, mut listed, mut different) = (0, 0, 0);
     for_each_case(|case| {
         let rules = pairs::encode(&case.pairs, &case.fact_text);
         tally.add(|| case.id.clone(), &rules);
+        let Some(known) = &case.rules else { return };
+        if rules_left(&rules, known.len()) == *known {
+            equal += 1;
+        } else if of_rules(&case.pairs).contains(&Difference::NinthPlaceholder) {
+            listed += 1;
+        } else {
+            different += 1;
+            println!("{}: the rules left are not those of the real build", case.id);
+        }
     })?;
-    Ok(tally.print())
+    let same = tally.print();
+    println!(
+        "rules left of a real build: {equal} cases equal, {listed} different by a listed difference, \
+         {different} different"
+    );
+    Ok(same && different == 0)
+}
+
+/// Pair and form of the rules that the library leaves, of which it is asked for one more than `count`.
+fn rules_left(rules: &Rules, count: usize) -> Vec<(u32, u32)> {
+    let found = (0..=count).map(|rule| build_rules(rules, rule)).filter(|built| built.found == 1);
+    found.map(|built| (built.pair as u32, built.form as u32)).collect()
 }
 
 /// `count` cases of well-formed rules.
@@ -135,8 +161,24 @@ pub fn generated(seed: u64, count: u64) -> bool {
     tally.print()
 }
 
-/// `count` damaged copies of well-formed rules.
+/// The vectors, small ones and large ones, each with the numbers that it has to have.
+fn vectors() -> bool {
+    let mut tally = Tally::default();
+    let mut different = 0;
+    for (name, rules, wanted) in rule_vectors::all().into_iter().chain(rule_vectors::large()) {
+        let found = tally.add(|| name.to_owned(), &rules);
+        if found != wanted {
+            different += 1;
+            println!("{name}: {found:?} for {wanted:?}");
+        }
+    }
+    tally.print() && different == 0
+}
+
+/// The vectors, then `count` damaged copies of well-formed rules.
 pub fn damaged(seed: u64, count: u64) -> bool {
+    println!("vectors:");
+    let vectors = vectors();
     let (mut whole, mut copies) = (Tally::default(), Tally::default());
     let (mut rules, mut numbers) = (Rules::default(), [0; 2]);
     let mut idle: BTreeMap<&str, bool> = BTreeMap::new();
@@ -155,7 +197,7 @@ pub fn damaged(seed: u64, count: u64) -> bool {
     println!("whole rules:");
     let equal = whole.print();
     println!("their damaged copies:");
-    copies.print() & equal & print_idle(&idle)
+    copies.print() & equal & vectors & print_idle(&idle)
 }
 
 /// Prints which damages changed no number: whether the harmless ones are among them.

@@ -1,6 +1,7 @@
 //! Small rules, each with the numbers that building and resolving have to give it: the order of the
 //! stages, forms and templates, texts, and every fault of a directory.
 
+use crate::facts::paths;
 use crate::kinds::*;
 use crate::limits::{deep_tree, number_side, one_to_two, side};
 use crate::parts::*;
@@ -170,6 +171,38 @@ fn texts() -> Vec<OfPairs> {
         ("white space in the code", pattern(&wide, &around), [19, 19]),
         ("another code", pattern(&one, &[(NUMBER, "2")]), [19, 19]),
     ]
+}
+
+/// Rules as large as they may be, and many of them.
+pub fn large() -> Vec<Vector> {
+    let many = vec![one_to_two(); 200];
+    let paths = vec![node(PATH, []); MOST - 2];
+    let wide = node(LITERAL, [node(LITERAL, paths.clone())]);
+    let call = node(CALL_EXPR, [node(PATH_EXPR, paths)]);
+    let chain = (0..DEPTH).fold(node(PATH, []), |inner, _| node(PATH, [inner]));
+    let chains = node(LITERAL, vec![chain; (MOST - 1) / (DEPTH + 1)]);
+    let mut missing = resolved(&wide, 0);
+    missing.pattern.trees[0].facts.truncate(4 * (MOST - 3));
+    let vectors = [
+        ("200 pairs", many, [0, 0]),
+        ("paths that are not usable", vec![resolved(&wide, 0)], [0, 0]),
+        ("paths that are not usable, the last without a fact", vec![missing], [0, 22]),
+        ("paths that claim one call", vec![resolved(&call, 7)], [0, 0]),
+        ("chains of qualifiers", vec![resolved(&chains, 0)], [0, 0]),
+    ];
+    vectors.map(|(name, pairs, numbers)| (name, encode(&pairs, b""), numbers)).to_vec()
+}
+
+/// The most elements of a tree, and the longest chain of paths below a root.
+const MOST: usize = 16_383;
+const DEPTH: usize = 126;
+
+/// A pattern without text, all of whose paths have a fact with these flags.
+fn resolved(tree: &Syntax, flags: u32) -> Pair {
+    let mut pattern = side(tree, &[]);
+    let facts = paths(tree).into_iter().map(|(i, _)| fact(1, i, [i as u32, flags, 0]));
+    pattern.trees[0].facts = facts.collect::<Vec<_>>().concat();
+    Pair { pattern, ..Pair::default() }
 }
 
 /// Faults of a directory, each 1.

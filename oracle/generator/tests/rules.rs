@@ -3,7 +3,7 @@
 
 use checker::{built_rules, checked_rules};
 use generator::bent_rules::{bend_copy, is_harmless};
-use generator::odd_rules;
+use generator::{odd_rules, rule_vectors};
 use input::Rules;
 use std::collections::BTreeSet;
 
@@ -70,7 +70,7 @@ fn harmless_damage_changes_no_number() {
 
 #[test]
 fn vectors_have_their_numbers() {
-    for (name, rules, expected) in generator::rule_vectors::all() {
+    for (name, rules, expected) in rule_vectors::all().into_iter().chain(rule_vectors::large()) {
         assert_eq!(numbers(&rules), expected, "{name}");
     }
 }
