@@ -17,8 +17,8 @@ use crate::sample::{bytes, record, trimmed, words};
 const BUILD_RULES: u32 = 6;
 const RESOLVE: u32 = 7;
 
-/// The numbers that small rules have.
-const NUMBERS: [u32; 19] = [1, 2, 3, 4, 5, 6, 7, 8, 9, 10, 11, 12, 13, 14, 15, 17, 19, 21, 22];
+/// The numbers that small generated rules have.
+const NUMBERS: [u32; 18] = [1, 2, 3, 4, 5, 6, 7, 8, 9, 10, 11, 12, 14, 15, 17, 19, 21, 22];
 
 /// About the most elements of the first tree of a generated side, and the most words and bytes of
 /// its rules.
@@ -26,7 +26,7 @@ const ELEMENTS: usize = 9;
 const WORDS: usize = 110;
 const BYTES: usize = 120;
 /// Copies that are looked through.
-const COPIES: u64 = 60_000;
+const COPIES: u64 = 100_000;
 /// For so many lists of the sample there is one record of each refusal, and for so many one of each
 /// other sort of answer.
 const LISTS: [usize; 2] = [440, 110];

@@ -82,6 +82,7 @@ fn stages() -> Vec<OfPairs> {
     let (a, b) = (placeholder("a"), placeholder("b"));
     let number = [(DOLLAR, "$"), (NUMBER, "1")];
     let both = [&b[..], &CONSTRAINED].concat();
+    let nine = ["a", "b", "c", "d", "e", "f", "g", "h", "i"].map(placeholder).concat();
     vec![
         ("no pairs", Vec::new(), [0, 0]),
         ("no form", vec![no_form()], [17, 17]),
@@ -96,6 +97,7 @@ fn stages() -> Vec<OfPairs> {
             [3, 3],
         ),
         ("14 and 15 in one", vec![lists(&a, Some(&both))], [14, 14]),
+        ("a ninth placeholder", vec![lists(&nine, None)], [13, 13]),
     ]
 }
 
