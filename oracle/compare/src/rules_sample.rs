@@ -17,8 +17,8 @@ use crate::sample::{bytes, record, trimmed, words};
 const BUILD_RULES: u32 = 6;
 const RESOLVE: u32 = 7;
 
-/// The numbers that small generated rules have.
-const NUMBERS: [u32; 18] = [1, 2, 3, 4, 5, 6, 7, 8, 9, 10, 11, 12, 14, 15, 17, 19, 21, 22];
+/// The numbers that small generated rules have often enough.
+const NUMBERS: [u32; 7] = [1, 14, 15, 17, 19, 21, 22];
 
 /// About the most elements of the first tree of a generated side, and the most words and bytes of
 /// its rules.
@@ -29,7 +29,7 @@ const BYTES: usize = 120;
 const COPIES: u64 = 100_000;
 /// For so many lists of the sample there is one record of each refusal, and for so many one of each
 /// other sort of answer.
-const LISTS: [usize; 2] = [440, 110];
+const LISTS: [usize; 2] = [440, 88];
 
 pub fn make(seed: u64, count: usize) -> Result<Vec<u8>, String> {
     let mut sample = Vec::new();
@@ -40,13 +40,13 @@ pub fn make(seed: u64, count: usize) -> Result<Vec<u8>, String> {
     Ok(sample)
 }
 
-/// Both operations; of the many faults of a directory, and of what is large, but one question.
+/// Both operations; of the many faults of directories and lists, and of what is large, one question.
 fn of_vector(index: usize, (name, rules, numbers): Vector) -> Result<Vec<u8>, String> {
     let whole = judged(&rules)?;
     if OPERATIONS.map(|operation| operation.number(&whole)) != numbers {
         return Err(format!("{name}: the numbers are not {numbers:?}"));
     }
-    let few = numbers == [1, 1] || rules.words.len() > WORDS;
+    let few = (1..=13).contains(&numbers[0]) || rules.words.len() > WORDS;
     let operations = if few { &OPERATIONS[index % 2..][..1] } else { &OPERATIONS };
     let mut sample = Vec::new();
     for operation in operations {
@@ -94,7 +94,7 @@ fn fits(question: &Question) -> bool {
     fits(question.rule) && fits(question.element)
 }
 
-/// Up to so many records of each refusal, and of each other sort of answer.
+/// Up to so many records of each refusal but those of lists, and of each other sort of answer.
 fn generated(seed: u64, [refusals, others]: [usize; 2]) -> Result<Vec<u8>, String> {
     let mut sample = Vec::new();
     let mut met: BTreeMap<(u32, &str), usize> = BTreeMap::new();
@@ -102,6 +102,9 @@ fn generated(seed: u64, [refusals, others]: [usize; 2]) -> Result<Vec<u8>, Strin
         let whole = judged(&rules)?;
         for operation in OPERATIONS {
             let number = operation.number(&whole);
+            if (2..=13).contains(&number) {
+                continue;
+            }
             let most = if number == 0 { others } else { refusals };
             let mut asked = operation.questions(&whole).into_iter().filter(fits);
             let wanted = asked.find(|question| {

@@ -14,7 +14,7 @@ use input::{Pair, Rules, Side, TokenList};
 pub type Vector = (&'static str, Rules, [u32; 2]);
 
 pub fn all() -> Vec<Vector> {
-    let pairs = [stages(), forms(), texts()].concat();
+    let pairs = [stages(), refused_lists(), forms(), texts()].concat();
     let encoded = |(name, pairs, numbers): (_, Vec<Pair>, _)| (name, encode(&pairs, b""), numbers);
     let mut all: Vec<Vector> = pairs.into_iter().map(encoded).collect();
     let faults = directories().into_iter();
@@ -82,7 +82,6 @@ fn stages() -> Vec<OfPairs> {
     let (a, b) = (placeholder("a"), placeholder("b"));
     let number = [(DOLLAR, "$"), (NUMBER, "1")];
     let both = [&b[..], &CONSTRAINED].concat();
-    let nine = ["a", "b", "c", "d", "e", "f", "g", "h", "i"].map(placeholder).concat();
     vec![
         ("no pairs", Vec::new(), [0, 0]),
         ("no form", vec![no_form()], [17, 17]),
@@ -97,8 +96,32 @@ fn stages() -> Vec<OfPairs> {
             [3, 3],
         ),
         ("14 and 15 in one", vec![lists(&a, Some(&both))], [14, 14]),
-        ("a ninth placeholder", vec![lists(&nine, None)], [13, 13]),
     ]
+}
+
+/// A list with each refusal of a list but 1.
+fn refused_lists() -> Vec<OfPairs> {
+    let a = placeholder("a");
+    let behind = |count: usize, tokens: &[Token]| [&CONSTRAINED[..count], tokens].concat();
+    let nine = ["a", "b", "c", "d", "e", "f", "g", "h", "i"].map(placeholder).concat();
+    let refused = [
+        (2, behind(2, &[])),
+        (3, behind(3, &[])),
+        (4, behind(3, &[(NUMBER, "1")])),
+        (5, behind(1, &[(NUMBER, "1")])),
+        (6, behind(1, &[])),
+        (7, behind(4, &[])),
+        (8, behind(4, &[(IDENT, "foo")])),
+        (9, behind(5, &[])),
+        (10, behind(6, &[])),
+        (11, behind(6, &[(IDENT, "foo"), (R_PAREN, ")")])),
+        (12, [a, a].concat()),
+        (13, nine),
+    ];
+    let vector = |(number, list): (u32, Vec<Token>)| {
+        ("a list that is refused", vec![lists(&list, None)], [number; 2])
+    };
+    refused.map(vector).to_vec()
 }
 
 /// `f` as an expression.
