@@ -233,51 +233,44 @@ fn resolved(tree: &Syntax, flags: u32) -> Pair {
 /// Faults of a directory, each 1.
 fn directories() -> Vec<(&'static str, Rules)> {
     let whole = encode(&[one_to_two()], b"");
-    let alone = encode(&[Pair { pattern: number_side("1"), ..Pair::default() }], b"");
-    let changed = |rules: &Rules, change: &dyn Fn(&mut Rules)| {
-        let mut rules = rules.clone();
-        change(&mut rules);
-        rules
-    };
-    let mut all = Vec::new();
-    for entry in (0..ROW).filter(|entry| *entry != 3) {
-        all.push(("an entry too large", changed(&whole, &|rules| rules.directory[entry] += 1)));
-    }
-    all.extend([
-        ("an entry missing", changed(&whole, &|rules| rules.directory.truncate(ROW - 1))),
-        ("an entry more", changed(&whole, &|rules| rules.directory.push(0))),
-        ("a word more", changed(&whole, &|rules| rules.words.push(0))),
-        ("a byte more", changed(&whole, &|rules| rules.bytes.push(b'1'))),
-        ("a word missing", changed(&whole, &|rules| shorten(&mut rules.words))),
-        ("a byte missing", changed(&whole, &|rules| shorten(&mut rules.bytes))),
-        ("a flag of 2", changed(&whole, &|rules| rules.directory[3] = 2)),
-        ("a template without its flag", changed(&whole, &|rules| rules.directory[3] = 0)),
-        (
-            "right in 32 bits",
-            changed(&whole, &|rules| {
-                rules.directory[0] += 1 << 31;
-                rules.directory[7] += 1 << 31;
-            }),
-        ),
-    ]);
-    // The lengths add up, but there is no template.
-    all.push((
-        "a list without its flag",
-        changed(&alone, &|rules| {
-            rules.directory[4] = 1;
-            rules.words.push(0);
-        }),
-    ));
-    for entry in [5, 6] {
-        all.push((
-            "a text without its flag",
-            changed(&alone, &|rules| {
-                rules.directory[entry] = 1;
-                rules.bytes.push(b'1');
-            }),
-        ));
-    }
+    let larger = |entry: usize| changed(&whole, |rules| rules.directory[entry] += 1);
+    let entries = (0..ROW).filter(|entry| *entry != 3);
+    let mut all: Vec<_> = entries.map(|entry| ("an entry too large", larger(entry))).collect();
+    let changes: [(&'static str, fn(&mut Rules)); 9] = [
+        ("an entry missing", |rules| shorten(&mut rules.directory)),
+        ("an entry more", |rules| rules.directory.push(0)),
+        ("a word missing", |rules| shorten(&mut rules.words)),
+        ("a word more", |rules| rules.words.push(0)),
+        ("a byte missing", |rules| shorten(&mut rules.bytes)),
+        ("a byte more", |rules| rules.bytes.push(b'1')),
+        ("a flag of 2", |rules| rules.directory[3] = 2),
+        ("a template without its flag", |rules| rules.directory[3] = 0),
+        ("right in 32 bits", |rules| [0, 7].iter().for_each(|i| rules.directory[*i] += 1 << 31)),
+    ];
+    all.extend(changes.map(|(name, change)| (name, changed(&whole, change))));
+    all.extend(without_flag());
     all
+}
+
+/// Lengths that add up, but of a template that is not given.
+fn without_flag() -> [(&'static str, Rules); 3] {
+    let alone = encode(&[Pair { pattern: number_side("1"), ..Pair::default() }], b"");
+    let with = |entry: usize| changed(&alone, |rules| rules.directory[entry] = 1);
+    let [mut list, mut text, mut code] = [4, 5, 6].map(with);
+    list.words.push(0);
+    text.bytes.push(b'1');
+    code.bytes.push(b'1');
+    [
+        ("a list without its flag", list),
+        ("a text without its flag", text),
+        ("a code without its flag", code),
+    ]
+}
+
+fn changed(rules: &Rules, change: impl FnOnce(&mut Rules)) -> Rules {
+    let mut rules = rules.clone();
+    change(&mut rules);
+    rules
 }
 
 fn shorten<T>(slice: &mut Vec<T>) {
