@@ -30,7 +30,6 @@ const USAGE: &str = "usage: compare corpus < CASES
        compare rules corpus < CASES
        compare rules generated SEED COUNT
        compare rules damaged SEED COUNT
-       compare rules sample SEED COUNT
        compare bench
        compare sample SEED COUNT";
 
@@ -50,21 +49,17 @@ fn run(arguments: &[&str]) -> Result<bool, String> {
         ["rules", "corpus"] => rules::corpus(),
         ["rules", "generated", seed, count] => Ok(rules::generated(number(seed)?, number(count)?)),
         ["rules", "damaged", seed, count] => Ok(rules::damaged(number(seed)?, number(count)?)),
-        ["rules", "sample", seed, count] => {
-            write(&rules_sample::make(number(seed)?, number(count)? as usize)?)
-        }
         ["bench"] => {
             bench::run();
             Ok(tree_bench::run())
         }
-        ["sample", seed, count] => write(&sample::make(number(seed)?, number(count)? as usize)?),
+        ["sample", seed, count] => {
+            let sample = sample::make(number(seed)?, number(count)? as usize)?;
+            stdout().write_all(&sample).map_err(|error| error.to_string())?;
+            Ok(true)
+        }
         _ => Err(USAGE.into()),
     }
-}
-
-fn write(sample: &[u8]) -> Result<bool, String> {
-    stdout().write_all(sample).map_err(|error| error.to_string())?;
-    Ok(true)
 }
 
 /// Does something with each case of a corpus, which comes on standard input.
