@@ -114,10 +114,10 @@ uint32_t ssr_check_rule_tree(uint32_t list_given,
  * then by form.
  *
  * The refusals, each over all pairs before the next:
- *   1 to 15  a malformed directory (1), or the lowest refusal of checking a pair
- *   18 to 20 of the trees, as above; 21 of their facts, if these are looked at
- *   17       a pair of which no form has both its trees (its pattern's alone, if no template was given)
- * Where several lists or trees refuse, the lowest number is given.
+ *   1 to 15   a malformed directory (1), or the refusal of checking a pair
+ *   18 to 20  of a tree, as above; 21 of its facts, where these are looked at
+ *   17        a pair of which no form has both its trees (its pattern's alone, if no template was given)
+ * Where several lists or trees refuse, the lowest of their numbers is given.
  */
 
 /* The answer of building rules. Everything that is not used is 0; after a refusal that is all but the number. */
@@ -144,7 +144,7 @@ typedef struct ssr_resolve_answer {
      *   22  a path of a rule that is left and that must resolve does not
      */
     uint32_t refusal;
-    uint32_t found; /* 1 if the rule has the side and the side's tree the element */
+    uint32_t found; /* 1 if there is such a rule, it has the side, and the side's tree has the element */
     uint32_t resolved; /* 1 if the element is a resolved path */
     uint32_t resolution; /* what that path resolves to */
     uint32_t call; /* 1 if the element is a call that UFCS may match */
@@ -155,8 +155,8 @@ typedef struct ssr_resolve_answer {
 } ssr_resolve_answer;
 
 /* Resolving, with the rule, the side and the element that are asked for. The fact text is one for all pairs. Rules
- * are numbered as by building. The side is 0 for the pattern, 1 for the template, which a rule without a template
- * does not have, and no other. Elements are numbered from 0 on, in the order of the tree's words.
+ * are numbered as by building. Side 0 is the pattern, 1 the template; a rule without a template has no side 1.
+ * Elements are numbered from 0 on, in the order of the tree's words.
  */
 ssr_resolve_answer ssr_resolve(const uint32_t *directory, size_t directory_length,
                                const uint32_t *words, size_t words_length,
