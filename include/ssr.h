@@ -107,6 +107,63 @@ uint32_t ssr_check_rule_tree(uint32_t list_given,
                              const uint32_t *facts, size_t facts_length,
                              const uint8_t *fact_text, size_t fact_text_length);
 
+/* The rules of pairs, docs/FORMAT.md "Rules": the directory has a row of 27 lengths for each pair; the words are
+ * the token lists, the trees and the facts of all pairs, and the bytes their texts and codes, each pair's in the
+ * order of its row. A pair has five forms, 0 expression, 1 type, 2 item, 3 pattern and 4 statement, and of each a
+ * pattern's tree and a template's, which may be absent. The rules that are left have numbers from 0 on, by pair and
+ * then by form.
+ *
+ * The refusals, each over all pairs before the next:
+ *   1 to 15   a malformed directory (1), or the refusal of checking a pair
+ *   18 to 20  of a tree, as above; 21 of its facts, where these are looked at
+ *   17        a pair of which no form has both its trees (its pattern's alone, if no template was given)
+ * Where several lists or trees refuse, the lowest of their numbers is given.
+ */
+
+/* The answer of building rules. Everything that is not used is 0; after a refusal that is all but the number. */
+typedef struct ssr_build_rules_answer {
+    uint32_t refusal; /* 0 if the rules were built, else 1 to 15, 18 to 20 or 17, in this order */
+    size_t rules; /* how many rules are left */
+    uint32_t found; /* 1 if there is a rule of the number that was asked for */
+    size_t pair; /* the number of its pair, from 0 on */
+    size_t form; /* its form */
+    /* Its template's tree: 0 no template was given, 1 the form's own tree, 2 the statement's in place of the
+     * expression's. */
+    uint32_t template_tree;
+} ssr_build_rules_answer;
+
+/* Building rules, with the number of a rule that is asked for. Facts are not looked at. */
+ssr_build_rules_answer ssr_build_rules(const uint32_t *directory, size_t directory_length,
+                                       const uint32_t *words, size_t words_length,
+                                       const uint8_t *bytes, size_t bytes_length,
+                                       size_t rule);
+
+/* The answer of resolving. Everything that is not used is 0; after a refusal that is all but the number. */
+typedef struct ssr_resolve_answer {
+    /* 0 if the rules were resolved, else 1 to 15, 18 to 21, 17 or, after these,
+     *   22  a path of a rule that is left and that must resolve does not
+     */
+    uint32_t refusal;
+    uint32_t found; /* 1 if there is such a rule, it has the side, and the side's tree has the element */
+    uint32_t resolved; /* 1 if the element is a resolved path */
+    uint32_t resolution; /* what that path resolves to */
+    uint32_t call; /* 1 if the element is a call that UFCS may match */
+    uint32_t function; /* that call's function */
+    uint32_t typed; /* 1 if the call has a qualifier type */
+    uint32_t qualifier_type; /* that type */
+    uint32_t contains_self; /* 1 if the side's tree has a token of kind 11, `self` */
+} ssr_resolve_answer;
+
+/* Resolving, with the rule, the side and the element that are asked for. The fact text is one for all pairs. Rules
+ * are numbered as by building. Side 0 is the pattern, 1 the template; a rule without a template has no side 1.
+ * Elements are numbered from 0 on, in the order of the tree's words.
+ */
+ssr_resolve_answer ssr_resolve(const uint32_t *directory, size_t directory_length,
+                               const uint32_t *words, size_t words_length,
+                               const uint8_t *bytes, size_t bytes_length,
+                               const uint8_t *fact_text, size_t fact_text_length,
+                               size_t rule, uint32_t side, size_t element);
+
 #ifdef __cplusplus
 }
 #endif

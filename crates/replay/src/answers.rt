@@ -2,16 +2,27 @@
 use ssr::NamedPlaceholder;
 use ssr::RawCode;
 use ssr::ReadTokens;
+use ssr::rule_exports::BuiltRules;
 use words::buffer;
 use words::buffer::Placed;
 use words::texts;
 
-// Lays the four lowest bytes of a number: the place behind them.
-fn lay(out: &mut [u8], at: usize, n: usize) -> usize {
-    match buffer::put_word(out, at, (n % 4294967296) as u32) {
+// The four lowest bytes of a number.
+fn low(n: usize) -> u32 {
+    (n % 4294967296) as u32
+}
+
+// Lays a word's bytes: the place behind them.
+fn lay_word(out: &mut [u8], at: usize, word: u32) -> usize {
+    match buffer::put_word(out, at, word) {
         Placed::At(next) => next,
         Placed::Full => at,
     }
+}
+
+// Lays the four lowest bytes of a number: the place behind them.
+fn lay(out: &mut [u8], at: usize, n: usize) -> usize {
+    lay_word(out, at, low(n))
 }
 
 fn lay_placeholder(out: &mut [u8], at: usize, p: NamedPlaceholder) -> usize {
@@ -86,4 +97,37 @@ pub fn is_buffer(out: &[u8], expected: &[u8]) -> bool {
         Placed::At(_) => texts::same_text(out, &wanted[0..n]),
         Placed::Full => false,
     }
+}
+
+fn lay_words(out: &mut [u8], words: &[u32]) {
+    let mut next: usize = 0;
+    let mut i: usize = 0;
+    while i < words.len() {
+        next = lay_word(out, next, words[i]);
+        i += 1;
+    }
+}
+
+// Whether at most nine words have the expected bytes, and then 0.
+fn is_words(words: &[u32], expected: &[u8]) -> bool {
+    let mut found = [0u8; 36];
+    lay_words(&mut found, words);
+    let mut wanted = [0u8; 36];
+    match buffer::put(&mut wanted, 0, expected) {
+        Placed::At(_) => texts::same_text(&found, &wanted),
+        Placed::Full => false,
+    }
+}
+
+// Whether the answer of building rules has the expected bytes, and then 0.
+pub fn is_built(answer: BuiltRules, expected: &[u8]) -> bool {
+    let words = [
+        answer.refusal,
+        low(answer.rules),
+        answer.found,
+        low(answer.pair),
+        low(answer.form),
+        answer.template,
+    ];
+    is_words(&words, expected)
 }

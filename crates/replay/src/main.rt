@@ -6,6 +6,7 @@ use libc::STDOUT_FILENO;
 mod records; // records.rt: a record and its parts
 mod answers; // answers.rt: the bytes of an answer
 mod checks; // checks.rt: trees with their facts
+mod rule_checks; // rule_checks.rt: the operations on rules
 
 ghost use Prim.Native.Nat.{_<_};
 
@@ -74,15 +75,16 @@ fn is_right(operation: usize, parts: &[u8]) -> bool {
         3 => raw_code(parts),
         4 => checks::check_file(parts),
         5 => checks::check_rule_tree(parts),
+        6 => rule_checks::build_rules(parts),
         _ => false,
     }
 }
 
 // Where an operation is counted: at twice its number if its answer is equal, one behind that if not. 1 is for no known operation.
 fn place(operation: usize, right: bool) -> usize
-    ensures { λ r. ⌜ r < 12 ⌝ }
+    ensures { λ r. ⌜ r < 16 ⌝ }
 {
-    if 6 <= operation {
+    if 7 <= operation {
         return 1;
     }
     if right {
@@ -91,14 +93,14 @@ fn place(operation: usize, right: bool) -> usize
     2 * operation + 1
 }
 
-fn count(counts: &mut [u64; 12], at: usize)
-    requires { ⌜ at < 12 ⌝ }
+fn count(counts: &mut [u64; 16], at: usize)
+    requires { ⌜ at < 16 ⌝ }
 {
     counts[at] = std::num::wrapping_add_u64(counts[at], 1);
 }
 
 // Reads a record and counts its answer; false at the end of the sample.
-fn replay(counts: &mut [u64; 12]) -> bool {
+fn replay(counts: &mut [u64; 16]) -> bool {
     let mut body = io::large_buffer();
     let size = records::read(&mut body);
     if size == 0 {
@@ -112,7 +114,7 @@ fn replay(counts: &mut [u64; 12]) -> bool {
 }
 
 // A proved loop has to end, and nothing says that the sample does: no run uses these turns up.
-fn replay_all(counts: &mut [u64; 12]) {
+fn replay_all(counts: &mut [u64; 16]) {
     let mut turns = u64::MAX;
     while turns > 0 && replay(counts) {
         turns -= 1;
@@ -129,13 +131,14 @@ fn print(name: &[u8], equal: u64, different: u64) {
 }
 
 fn main() {
-    let mut counts = [0u64; 12];
+    let mut counts = [0u64; 16];
     replay_all(&mut counts);
     print(b"read tokens", counts[2], counts[3]);
     print(b"check pairs", counts[4], counts[5]);
     print(b"write raw code", counts[6], counts[7]);
     print(b"check file trees", counts[8], counts[9]);
     print(b"check rule trees", counts[10], counts[11]);
+    print(b"build rules", counts[12], counts[13]);
     if 0 < counts[1] {
         print(b"unknown operations", counts[0], counts[1]);
     }

@@ -8,7 +8,7 @@ use lib.ListN.{length}
 use Rattle.parsing.specs.declared.patterns.Placeholder.{Placeholder}
 use Rattle.parsing.specs.declared.patterns.ParsedPattern.{ParsedPattern}
 use Rattle.parsing.specs.Reading.{Reading}
-use Rattle.errors.specs.Refusals.{outcomeNumber}
+use Rattle.errors.specs.Refusals.{numberOf, outcomeNumber}
 use Rattle.parsing.specs.Answers.{answerOf}
 use Rattle.validating.specs.Pairs.{pairOutcome}
 use Rattle.rust_code.specs.declared.Written.{Written}
@@ -16,6 +16,12 @@ use Rattle.rust_code.specs.RawCode.{writtenNumber, writtenLength}
 use Rattle.facts.specs.declared.Owner.{Owner}
 use Rattle.facts.specs.declared.Owner.the-variants.{Pattern, Template}
 use Rattle.trees.specs.Given.{fileOutcome, givenOutcome}
+use Rattle.rules.specs.declared.forms.TemplateTree.{TemplateTree}
+use Rattle.rules.specs.declared.forms.TemplateTree.the-variants.{Absent, Own, StandIn, Missing}
+use Rattle.rules.specs.declared.numbering.Found.the-variants.{NoSuchRule, At}
+use Rattle.rules.specs.declared.building.Built.{Built}
+use Rattle.rules.specs.declared.building.Built.the-variants.{Refused, Rules}
+use Rattle.ssr.specs.declared.rule_exports.BuiltRules.{BuiltRules}
 use Rattle.ssr.specs.declared.RawCode.{RawCode}
 use Rattle.ssr.specs.declared.NamedPlaceholder.{NamedPlaceholder}
 use Rattle.ssr.specs.declared.ReadTokens.{ReadTokens}
@@ -50,3 +56,16 @@ fileNumber words text facts = outcomeNumber (fileOutcome words text facts)
 abbrev pub ruleTreeNumber : ℕ → List ℕ → List ℕ → ℕ → List ℕ → List ℕ → List ℕ → List ℕ → ℕ
 ruleTreeNumber given list text side words code facts factText =
     outcomeNumber (givenOutcome (not (eqb given 0)) list text (sideOwner side) words code facts (length factText))
+
+-- a rule's template tree: none given, its own, the statement's, missing
+abbrev pub templateNumber : TemplateTree → ℕ
+templateNumber Absent = 0
+templateNumber Own = 1
+templateNumber StandIn = 2
+templateNumber Missing = 3
+
+-- building rules: 01's number, how many rules are left, and the rule that was asked for
+abbrev pub rulesBuilt : Built → BuiltRules
+rulesBuilt (Refused r) = record { refusal = numberOf r; rules = 0; found = 0; pair = 0; form = 0; template = 0 }
+rulesBuilt (Rules n NoSuchRule) = record { refusal = 0; rules = n; found = 0; pair = 0; form = 0; template = 0 }
+rulesBuilt (Rules n (At rule)) = record { refusal = 0; rules = n; found = 1; pair = rule .pair; form = rule .form; template = templateNumber (rule .template) }

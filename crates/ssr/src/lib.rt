@@ -1,5 +1,7 @@
 // The C ABI: one exported function for each operation of document 01, and two that check a tree with its facts by itself, all thin.
 // include/ssr.h declares them.
+pub mod rule_exports; // rule_exports.rt: the operations on rules
+
 use facts::Owner;
 use parsing::patterns;
 use parsing::patterns::Placeholder;

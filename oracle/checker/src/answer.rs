@@ -3,7 +3,7 @@
 use crate::check::{built_rules, check, checked_rules};
 use crate::rules::Rule;
 use crate::tokens::read_tokens;
-use input::{Answer, BuiltRule, Operation, Outcome, ResolvedElement, Rules, used};
+use input::{Answer, Operation, Outcome, ResolvedElement, Rules, used};
 
 /// The outcome of a refused operation, of reading tokens, checking a pair, writing raw code,
 /// building and resolving; nothing where matching decides.
@@ -50,11 +50,7 @@ fn buffer(operation: &Operation) -> usize {
 
 fn built(rules: &Rules, asked: u32) -> Option<Answer> {
     let rules = built_rules(rules).ok()?;
-    let asked = rules.get(asked as usize).map(|rule| BuiltRule {
-        pair: rule.pair,
-        form: rule.form,
-        template: rule.template_tree,
-    });
+    let asked = rules.get(asked as usize).map(Rule::built);
     Some(Answer::Built { rules: rules.len() as u32, asked })
 }
 

@@ -16,7 +16,7 @@ mod tree;
 mod write;
 
 pub use answer::{answer, refused};
-pub use check::{check, check_parses, check_tree, checked_file, checked_rules};
+pub use check::{built_rules, check, check_parses, check_tree, checked_file, checked_rules};
 pub use facts::{Facts, Place};
 pub use parses::{Parse, read_parses};
 pub use rules::{Resolved, Rule};

@@ -5,7 +5,7 @@ use crate::lists::PairLists;
 use crate::lowest::Lowest;
 use crate::tokens::{ReadList, STAND_IN, read_tokens};
 use crate::tree::{Tree, check_limits};
-use input::{File, Pair, RuleSide, Side, TemplateTree};
+use input::{BuiltRule, File, Pair, RuleSide, Side, TemplateTree};
 use std::collections::BTreeMap;
 
 const PATH: u32 = 2;
@@ -120,6 +120,11 @@ pub struct Rule {
 }
 
 impl Rule {
+    /// What building says of it.
+    pub fn built(&self) -> BuiltRule {
+        BuiltRule { pair: self.pair, form: self.form, template: self.template_tree }
+    }
+
     /// The placeholder that a stand-in name names.
     pub fn placeholder(&self, text: &[u8]) -> Option<usize> {
         self.stand_ins.iter().position(|name| name == text)

@@ -38,7 +38,7 @@ fn difference(operation: &Operation, outcome: &Outcome) -> Result<(), String> {
     }
 }
 
-fn same<T: PartialEq + Debug>(library: T, judged: T) -> Result<(), String> {
+pub fn same<T: PartialEq + Debug>(library: T, judged: T) -> Result<(), String> {
     if library == judged {
         return Ok(());
     }

@@ -1,5 +1,7 @@
 //! The Rattle library's functions (include/ssr.h), and safe calls of them.
 
+pub mod rules;
+
 use input::{Answer, File, Outcome, RuleSide, TokenList, TreeCheck};
 
 /// A placeholder of an answer: the bytes of its name in the list's text, and how many constraints

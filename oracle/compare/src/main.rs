@@ -5,6 +5,8 @@ mod bench;
 mod comparison;
 mod library;
 mod plain;
+mod rules;
+mod rules_sample;
 mod sample;
 mod small_stack;
 mod tree_bench;
@@ -25,6 +27,9 @@ const USAGE: &str = "usage: compare corpus < CASES
        compare generated SEED COUNT
        compare trees corpus < CASES
        compare trees damaged SEED COUNT
+       compare rules corpus < CASES
+       compare rules generated SEED COUNT
+       compare rules damaged SEED COUNT
        compare bench
        compare sample SEED COUNT";
 
@@ -41,6 +46,9 @@ fn run(arguments: &[&str]) -> Result<bool, String> {
         ["generated", seed, count] => Ok(generated(number(seed)?, number(count)?)),
         ["trees", "corpus"] => trees::corpus(),
         ["trees", "damaged", seed, count] => trees::damaged(number(seed)?, number(count)?),
+        ["rules", "corpus"] => rules::corpus(),
+        ["rules", "generated", seed, count] => Ok(rules::generated(number(seed)?, number(count)?)),
+        ["rules", "damaged", seed, count] => Ok(rules::damaged(number(seed)?, number(count)?)),
         ["bench"] => {
             bench::run();
             Ok(tree_bench::run())

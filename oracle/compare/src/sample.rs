@@ -9,6 +9,7 @@ use judge::judge;
 
 use crate::comparison::with_lists;
 use crate::library::{ReadTokens, judged_pair, judged_raw_code};
+use crate::rules_sample;
 use crate::tree_sample;
 
 /// The number of an operation in a record: document 01's order.
@@ -42,6 +43,7 @@ pub fn make(seed: u64, count: usize) -> Result<Vec<u8>, String> {
         sample.extend(raw_code(list, (length + spare).saturating_sub(1))?);
     }
     sample.extend(tree_sample::make(seed));
+    sample.extend(rules_sample::make(seed, count)?);
     Ok(sample)
 }
 

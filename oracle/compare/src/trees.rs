@@ -6,7 +6,7 @@ use checker::check_tree;
 use corpus::case::Case;
 use generator::bent_trees::{HARMLESS, bend_copy};
 use generator::{tree_limits, trees};
-use input::{File, RuleSide, RuleTree, Side, TreeCheck};
+use input::TreeCheck;
 
 use crate::{for_each_case, library, small_stack};
 
@@ -155,12 +155,11 @@ pub fn corpus() -> Result<bool, String> {
 fn checks(case: &Case) -> Vec<(&'static str, TreeCheck)> {
     let mut checks = vec![("the file's", TreeCheck { tree: case.file.clone(), rule: None })];
     for pair in &case.pairs {
-        let template = u32::from(pair.has_template);
-        for (side, given, of) in [(0, 1, &pair.pattern), (1, template, &pair.template)] {
-            checks.extend(of.trees.iter().map(|tree| {
-                let present = !tree.words.is_empty();
+        for (side, of) in [(0, &pair.pattern), (1, &pair.template)] {
+            checks.extend((0..of.trees.len()).map(|form| {
+                let present = !of.trees[form].words.is_empty();
                 let name = if present { NAMES[side as usize] } else { "a rule's, absent" };
-                (name, rule_check(tree, given, side, of, &case.fact_text))
+                (name, TreeCheck::of_rule(pair, side, form, &case.fact_text))
             }));
         }
     }
@@ -168,12 +167,3 @@ fn checks(case: &Case) -> Vec<(&'static str, TreeCheck)> {
 }
 
 const NAMES: [&str; 2] = ["a pattern's", "a template's"];
-
-fn rule_check(tree: &RuleTree, given: u32, side: u32, of: &Side, fact_text: &[u8]) -> TreeCheck {
-    let (list, fact_text) = (of.list.clone(), fact_text.to_vec());
-    let RuleTree { words, facts } = tree.clone();
-    TreeCheck {
-        tree: File { tree: words, text: of.code.clone(), facts },
-        rule: Some(RuleSide { given, list, side, fact_text }),
-    }
-}

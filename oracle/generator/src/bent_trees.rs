@@ -3,7 +3,7 @@
 
 mod elements;
 mod facts;
-mod words;
+pub(crate) mod words;
 
 use crate::damage::{bytes, damage_list};
 use crate::kinds::WHITESPACE;

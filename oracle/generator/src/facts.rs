@@ -124,7 +124,7 @@ pub fn template_facts(
     facts.concat()
 }
 
-fn paths(root: &Syntax) -> Vec<(usize, &Syntax)> {
+pub fn paths(root: &Syntax) -> Vec<(usize, &Syntax)> {
     root.elements().into_iter().enumerate().filter(|(_, e)| is_kind(e, PATH)).collect()
 }
 

@@ -2,6 +2,7 @@
 //! three always give the same case.
 
 pub mod arguments;
+pub mod bent_rules;
 pub mod bent_trees;
 mod damage;
 mod derive;
@@ -11,10 +12,13 @@ mod jobs;
 mod kinds;
 mod limits;
 mod lists;
+pub mod odd_rules;
+mod odd_trees;
 mod pairs;
 mod parse;
 mod parts;
 mod rng;
+pub mod rule_vectors;
 mod tiny;
 mod tokens;
 pub mod tree_limits;

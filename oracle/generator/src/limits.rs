@@ -161,15 +161,15 @@ fn rule_tree(tree: Syntax) -> Operation {
 }
 
 /// `1 ==>> 2`.
-fn one_to_two() -> Pair {
+pub fn one_to_two() -> Pair {
     Pair { pattern: number_side("1"), has_template: true, template: number_side("2") }
 }
 
-fn number_side(number: &str) -> Side {
+pub fn number_side(number: &str) -> Side {
     side(&node(LITERAL, [token(NUMBER, number)]), &[(NUMBER, number)])
 }
 
-fn side(tree: &Syntax, list: &[(u32, &str)]) -> Side {
+pub fn side(tree: &Syntax, list: &[(u32, &str)]) -> Side {
     let mut side = Side { list: token_list(list), code: tree.text(), ..Side::default() };
     side.trees[0].words = tree.words();
     side

@@ -13,6 +13,11 @@ const NAMES: [&str; 9] = ["a", "b", "c", "d", "e", "f", "g", "h", "i"];
 
 /// Reading a list with up to three faults.
 pub fn random(rng: &mut Rng) -> Operation {
+    Operation::ReadTokens { list: bent(rng) }
+}
+
+/// A list with up to three faults.
+pub fn bent(rng: &mut Rng) -> TokenList {
     let mut list = match rng.below(20) {
         0 => TokenList::default(),
         1..=3 => crowded(rng),
@@ -24,7 +29,7 @@ pub fn random(rng: &mut Rng) -> Operation {
     for _ in 0..rng.below(4) {
         bend(rng, &mut list);
     }
-    Operation::ReadTokens { list }
+    list
 }
 
 /// Placeholders with constraints up to about as many tokens as a list may have.

@@ -35,6 +35,20 @@ pub struct TreeCheck {
     pub rule: Option<RuleSide>,
 }
 
+impl TreeCheck {
+    /// The tree of a form of a pair; `side` is 0 for the pattern's, else the template's.
+    pub fn of_rule(pair: &Pair, side: u32, form: usize, fact_text: &[u8]) -> TreeCheck {
+        let of = if side == 0 { &pair.pattern } else { &pair.template };
+        let RuleTree { words, facts } = of.trees[form].clone();
+        let given = u32::from(side == 0 || pair.has_template);
+        let (list, fact_text) = (of.list.clone(), fact_text.to_vec());
+        TreeCheck {
+            tree: File { tree: words, text: of.code.clone(), facts },
+            rule: Some(RuleSide { given, list, side, fact_text }),
+        }
+    }
+}
+
 /// What a rule's tree has beside it.
 #[derive(Clone, Debug, Default, PartialEq, Eq)]
 pub struct RuleSide {

@@ -6,11 +6,13 @@ mod lists;
 pub mod predicates;
 pub mod program;
 mod rules;
+mod whole_rules;
 
 use checker::refused;
 use input::{Answer, Operation, Outcome};
 use predicates::Difference;
 use ssr::{NotFed, Stopped};
+pub use whole_rules::{Backing, Held, JudgedSide, Sides, WholeRules, whole_rules};
 
 /// What is known of an operation.
 #[derive(Debug, Default)]
@@ -65,8 +67,7 @@ pub fn judge(operation: &Operation) -> Judgement {
 fn confirmed(operation: &Operation, outcome: Outcome) -> Judgement {
     let answer = outcome.answer.clone();
     let crate_answer = match (operation, &answer) {
-        // Document 01's own numbers.
-        (_, Answer::Refused(1 | 13 | 16 | 18..=21 | 23..)) => return Judgement::of(outcome),
+        (_, Answer::Refused(number)) if is_own(*number) => return Judgement::of(outcome),
         (Operation::ReadTokens { list }, _) => lists::read_tokens(list),
         (Operation::CheckPair { pattern, template }, _) => {
             lists::check_pair(pattern, template.as_ref())
@@ -90,6 +91,11 @@ fn confirmed(operation: &Operation, outcome: Outcome) -> Judgement {
             Judgement { covered, ..Judgement::of(outcome) }.disagree(what)
         }
     }
+}
+
+/// Document 01's own numbers, which the crate does not have.
+fn is_own(number: u32) -> bool {
+    matches!(number, 1 | 13 | 16 | 18..=21 | 23..)
 }
 
 /// A refusal of the crate as an answer; other ends stay as they are.

@@ -1,7 +1,7 @@
 //! The differences that document 01 lists, each as a predicate on the case. They look at what is
 //! handed in, at the matches and at where they are kept, never at rendered texts.
 
-use input::{Binding, Kept, Matched, Pair, TokenList, words};
+use input::{Binding, Kept, Matched, Pair, RuleTree, TokenList, words};
 
 /// A listed difference.
 #[derive(Clone, Copy, Debug, PartialEq, Eq)]
@@ -27,10 +27,21 @@ pub const DIFFERENCES: [Difference; 5] = [
     Difference::NinthPlaceholder,
 ];
 
-/// The predicates on the rules as handed in.
+/// The predicates on the rules as handed in. Nothing is matched by a template's calls.
 pub fn of_rules(pairs: &[Pair]) -> Vec<Difference> {
+    on_pairs(pairs, |pair| two_paths_one_call(&pair.pattern.trees))
+}
+
+/// The same for resolving, which tells of a template's calls too.
+pub fn of_resolving(pairs: &[Pair]) -> Vec<Difference> {
+    on_pairs(pairs, |pair| {
+        two_paths_one_call(&pair.pattern.trees) || two_paths_one_call(&pair.template.trees)
+    })
+}
+
+fn on_pairs(pairs: &[Pair], two_paths: fn(&Pair) -> bool) -> Vec<Difference> {
     let mut found = Vec::new();
-    if pairs.iter().any(two_paths_one_call) {
+    if pairs.iter().any(two_paths) {
         found.push(Difference::TwoPathsOneCall);
     }
     let lists = pairs.iter().flat_map(|pair| [&pair.pattern.list, &pair.template.list]);
@@ -81,8 +92,8 @@ impl Shape {
 
 /// Two facts of sort 1 with the flags usable and associated function whose paths have one CALL_EXPR
 /// as grandparent.
-fn two_paths_one_call(pair: &Pair) -> bool {
-    pair.pattern.trees.iter().any(|tree| {
+fn two_paths_one_call(trees: &[RuleTree]) -> bool {
+    trees.iter().any(|tree| {
         let shape = Shape::new(&tree.words);
         let mut calls: Vec<u32> = Vec::new();
         for fact in tree.facts.chunks_exact(4) {

@@ -1,9 +1,9 @@
 //! Building and resolving, asked of the crate.
 
-use crate::predicates::{Difference, of_lists, of_rules};
-use crate::refusal_as_answer;
-use input::{Answer, Operation, Pair, ResolvedElement, Rules, pairs, words};
-use ssr::{Finder, NotFed, ResolvedSide, Stopped, Workspace};
+use crate::predicates::{Difference, of_lists, of_resolving, of_rules};
+use crate::whole_rules::{JudgedSide, Sides, built_answer, resolved_answer};
+use input::{Answer, BuiltRule, Operation, Pair, Rules, Side, TemplateTree, pairs, words};
+use ssr::{Finder, NotFed, ResolvedRuleSides, Stopped, Workspace};
 
 fn pairs_of(rules: &Rules) -> Result<Vec<Pair>, Stopped> {
     pairs::decode(rules).ok_or(Stopped::NotFed(NotFed::Malformed))
@@ -25,17 +25,54 @@ fn lists_refusal(pairs: &[Pair]) -> Result<Option<u32>, Stopped> {
     Ok(lowest)
 }
 
-pub(crate) fn build(rules: &Rules, asked: u32) -> Result<Answer, Stopped> {
-    let pairs = pairs_of(rules)?;
-    if let Some(number) = lists_refusal(&pairs)? {
-        return Ok(Answer::Refused(number));
+/// An answer of the crate, or its refusal.
+pub(crate) type Asked<T> = Result<Result<T, u32>, Stopped>;
+
+fn asked<T>(result: Result<T, Stopped>) -> Asked<T> {
+    match result {
+        Ok(found) => Ok(Ok(found)),
+        Err(Stopped::Refused(number)) => Ok(Err(number)),
+        Err(other) => Err(other),
     }
-    let workspace = Workspace::new(&pairs, &rules.fact_text, None)?;
-    let built = ssr::build(&workspace).map(|built| Answer::Built {
-        rules: built.len() as u32,
-        asked: built.get(asked as usize).copied(),
-    });
-    built.or_else(refusal_as_answer)
+}
+
+/// The rules that the crate leaves.
+pub(crate) fn all_built(pairs: &[Pair], fact_text: &[u8]) -> Asked<Vec<BuiltRule>> {
+    if let Some(number) = lists_refusal(pairs)? {
+        return Ok(Err(number));
+    }
+    let workspace = Workspace::new(pairs, fact_text, None)?;
+    asked(ssr::build(&workspace))
+}
+
+/// What the crate resolves, for each rule that it leaves.
+pub(crate) fn all_resolved(pairs: &[Pair], fact_text: &[u8]) -> Asked<Vec<Sides>> {
+    if let Some(number) = lists_refusal(pairs)? {
+        return Ok(Err(number));
+    }
+    let workspace = Workspace::new(pairs, fact_text, None)?;
+    let sides = |finder: Finder| {
+        let resolved = finder.resolved().into_iter();
+        resolved.zip(finder.rules()).map(|(sides, built)| sides_of(pairs, built, sides)).collect()
+    };
+    asked(Finder::new(&workspace).map(sides))
+}
+
+fn sides_of(pairs: &[Pair], built: &BuiltRule, sides: ResolvedRuleSides) -> Sides {
+    let pair = &pairs[built.pair as usize];
+    let template_form = if built.template == TemplateTree::StandIn { 4 } else { built.form };
+    let judged = |side: &Side, form: u32, resolved| {
+        let root = side.trees[form as usize].words.first();
+        JudgedSide { elements: root.map_or(0, |root| words::low16(*root) as usize), resolved }
+    };
+    let pattern = judged(&pair.pattern, built.form, sides.pattern);
+    let template = sides.template.map(|side| judged(&pair.template, template_form, side));
+    [Some(pattern), template]
+}
+
+pub(crate) fn build(rules: &Rules, rule: u32) -> Result<Answer, Stopped> {
+    let built = all_built(&pairs_of(rules)?, &rules.fact_text)?;
+    Ok(built_answer(&built, rule as usize))
 }
 
 pub(crate) fn resolve(
@@ -44,41 +81,8 @@ pub(crate) fn resolve(
     side: u32,
     element: u32,
 ) -> Result<Answer, Stopped> {
-    let pairs = pairs_of(rules)?;
-    if let Some(number) = lists_refusal(&pairs)? {
-        return Ok(Answer::Refused(number));
-    }
-    let workspace = Workspace::new(&pairs, &rules.fact_text, None)?;
-    let finder = match Finder::new(&workspace) {
-        Ok(finder) => finder,
-        Err(stopped) => return refusal_as_answer(stopped),
-    };
-    let resolved = finder.resolved();
-    let found = resolved.get(rule as usize).and_then(|rule| match side {
-        0 => Some(&rule.pattern),
-        1 => rule.template.as_ref(),
-        _ => None,
-    });
-    let size = finder.rules().get(rule as usize).map_or(0, |built| {
-        let pair = &pairs[built.pair as usize];
-        let form = match built.template {
-            input::TemplateTree::StandIn if side == 1 => 4,
-            _ => built.form as usize,
-        };
-        let side = if side == 0 { &pair.pattern } else { &pair.template };
-        side.trees[form].words.first().map_or(0, |root| words::low16(*root))
-    });
-    Ok(Answer::Resolved(found.filter(|_| element < size).map(|side| about(side, element))))
-}
-
-fn about(side: &ResolvedSide, element: u32) -> ResolvedElement {
-    let path = side.paths.iter().find(|path| path.0 == element);
-    let call = side.calls.iter().find(|call| call.0 == element);
-    ResolvedElement {
-        resolution: path.map(|path| path.1),
-        call: call.map(|call| (call.1, call.2)),
-        contains_self: side.contains_self,
-    }
+    let resolved = all_resolved(&pairs_of(rules)?, &rules.fact_text)?;
+    Ok(resolved_answer(&resolved, rule as usize, side, element as usize))
 }
 
 /// The crate's refusal of rules: of a list or a pair, 17 or 22.
@@ -103,5 +107,9 @@ pub(crate) fn covered(operation: &Operation) -> Vec<Difference> {
         | Operation::MatchNode { rules, .. } => rules,
         Operation::Job(job) | Operation::Walk(job) => &job.rules,
     };
-    pairs::decode(rules).map(|pairs| of_rules(&pairs)).unwrap_or_default()
+    let pairs = pairs::decode(rules).unwrap_or_default();
+    if matches!(operation, Operation::Resolve { .. }) {
+        return of_resolving(&pairs);
+    }
+    of_rules(&pairs)
 }

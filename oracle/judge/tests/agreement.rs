@@ -1,9 +1,12 @@
 //! The crate's source and the checker agree on a sample of every class, and a malformed case file
 //! is answered with a message.
 
-use generator::{CLASSES, Class, cases};
-use input::{Answer, Operation};
-use judge::judge;
+use generator::bent_rules::bend_copy;
+use generator::{CLASSES, Class, cases, odd_rules};
+use input::build::{Syntax, fact, node};
+use input::pairs::encode;
+use input::{Answer, Operation, Pair, Rules, Side};
+use judge::{Backing, judge, whole_rules};
 use std::process::Command;
 
 /// The first cases of a class that disagree without a listed difference.
@@ -23,6 +26,81 @@ fn every_class_agrees() {
             assert_eq!(unexplained(class, 300), Vec::<String>::new(), "{name}");
         }
     }
+}
+
+/// Well-formed rules that no parser makes, and damaged copies of them.
+fn odd_and_damaged(count: u64) -> impl Iterator<Item = Rules> {
+    (0..count).map(|index| {
+        let mut rules = odd_rules::random(7, index / 2, 30);
+        if index % 2 == 1 {
+            bend_copy(7, index, &mut rules);
+        }
+        rules
+    })
+}
+
+#[test]
+fn whole_rules_agree() {
+    let mut same = 0;
+    for rules in odd_and_damaged(2_000) {
+        let whole = whole_rules(&rules);
+        for backing in [whole.built.backing, whole.resolved.backing] {
+            assert!(!matches!(backing, Backing::Other(_)), "{backing:?}: {rules:x?}");
+            same += u32::from(matches!(backing, Backing::Same));
+        }
+    }
+    assert!(same > 1_500, "{same} of 4000");
+}
+
+#[test]
+fn whole_rules_answer_as_one_question_does() {
+    for rules in odd_and_damaged(300) {
+        let whole = whole_rules(&rules);
+        for (rule, side, element) in [(0, 0, 0), (0, 1, 2), (1, 0, 5), (9, 0, 0), (0, 2, 0)] {
+            let build = Operation::Build { rules: rules.clone(), rule };
+            let resolve = Operation::Resolve { rules: rules.clone(), rule, side, element };
+            let [built, resolved] =
+                [build, resolve].map(|operation| judge(&operation).outcome.map(|o| o.answer));
+            let (rule, element) = (rule as usize, element as usize);
+            assert_eq!(built, Some(whole.built_answer(rule)));
+            assert_eq!(resolved, Some(whole.resolved_answer(rule, side, element)));
+        }
+    }
+}
+
+/// An empty path in a node.
+fn around_path() -> Syntax {
+    node(67, [node(2, [])])
+}
+
+#[test]
+fn two_paths_on_one_call_are_listed_on_both_sides() {
+    let tree = node(64, [around_path(), around_path()]);
+    let claims = |first, second| [fact(1, 2, [first, 7, 0]), fact(1, 4, [second, 7, 0])].concat();
+    let side = |facts| {
+        let mut side = Side::default();
+        side.trees[0].words = tree.words();
+        side.trees[0].facts = facts;
+        side
+    };
+    let mut listed = [0; 2];
+    for (first, second) in (0..20).map(|number| (number, number + 1)) {
+        let pattern = side(claims(first, second));
+        let template = side(claims(second, first));
+        let alone = Pair { pattern: pattern.clone(), ..Pair::default() };
+        let mut other = pattern;
+        other.trees[0].facts = [fact(1, 2, [1, 3, 0]), fact(1, 4, [1, 3, 0])].concat();
+        let pairs = [alone, Pair { pattern: other, has_template: true, template }];
+        for (count, pair) in listed.iter_mut().zip(pairs) {
+            match whole_rules(&encode(&[pair], b"")).resolved.backing {
+                Backing::Same => {}
+                Backing::Listed => *count += 1,
+                other => panic!("{other:?}"),
+            }
+        }
+    }
+    // The crate takes either path, by the order of a hash map.
+    assert!(listed.iter().all(|count| *count > 0), "{listed:?}");
 }
 
 #[test]
