@@ -1,7 +1,7 @@
 -- What each exported function answers.
 -- Assumes nothing.
 use Prim.Native.Nat.{ℕ}
-use mathlib.Core.Bool.{cond, not}
+use mathlib.Core.Bool.{Bool, cond, not}
 use mathlib.Core.List.{List, map}
 use lib.Dec.{eqb}
 use lib.ListN.{length}
@@ -22,6 +22,15 @@ use Rattle.rules.specs.declared.numbering.Found.the-variants.{NoSuchRule, At}
 use Rattle.rules.specs.declared.building.Built.{Built}
 use Rattle.rules.specs.declared.building.Built.the-variants.{Refused, Rules}
 use Rattle.ssr.specs.declared.rule_exports.BuiltRules.{BuiltRules}
+use Rattle.paths.specs.declared.tables.PathAt.{PathAt}
+use Rattle.paths.specs.declared.tables.PathAt.the-variants.{NotResolved, ResolvedTo}
+use Rattle.paths.specs.declared.tables.CallAt.{CallAt}
+use Rattle.paths.specs.declared.tables.CallAt.the-variants.{NoCall, Call, TypedCall}
+use Rattle.resolving.specs.declared.asking.Resolved.{Resolved}
+use Rattle.resolving.specs.declared.asking.Resolved.the-variants as resolved
+use Rattle.ssr.specs.declared.rule_exports.PathNumbers.{PathNumbers}
+use Rattle.ssr.specs.declared.rule_exports.CallNumbers.{CallNumbers}
+use Rattle.ssr.specs.declared.rule_exports.ResolvedElement.{ResolvedElement}
 use Rattle.ssr.specs.declared.RawCode.{RawCode}
 use Rattle.ssr.specs.declared.NamedPlaceholder.{NamedPlaceholder}
 use Rattle.ssr.specs.declared.ReadTokens.{ReadTokens}
@@ -69,3 +78,28 @@ abbrev pub rulesBuilt : Built → BuiltRules
 rulesBuilt (Refused r) = record { refusal = numberOf r; rules = 0; found = 0; pair = 0; form = 0; template = 0 }
 rulesBuilt (Rules n NoSuchRule) = record { refusal = 0; rules = n; found = 0; pair = 0; form = 0; template = 0 }
 rulesBuilt (Rules n (At rule)) = record { refusal = 0; rules = n; found = 1; pair = rule .pair; form = rule .form; template = templateNumber (rule .template) }
+
+-- an element as a path: whether it is resolved, and to what
+abbrev pub pathNumbers : PathAt → PathNumbers
+pathNumbers NotResolved = record { resolved = 0; resolution = 0 }
+pathNumbers (ResolvedTo resolution) = record { resolved = 1; resolution = resolution }
+
+-- as a call: whether it is one, its function, whether that has a qualifier type, and the type
+abbrev pub callNumbers : CallAt → CallNumbers
+callNumbers NoCall = record { call = 0; function = 0; typed = 0; «qualifier_type» = 0 }
+callNumbers (Call function) = record { call = 1; function = function; typed = 0; «qualifier_type» = 0 }
+callNumbers (TypedCall function type) = record { call = 1; function = function; typed = 1; «qualifier_type» = type }
+
+-- resolving: 01's number, whether the element is found, and what it is
+abbrev pub nothingResolved : ℕ → ResolvedElement
+nothingResolved refusal =
+    record { refusal = refusal; found = 0; resolved = 0; resolution = 0; call = 0; function = 0; typed = 0; «qualifier_type» = 0; «contains_self» = 0 }
+
+abbrev pub elementFound : PathNumbers → CallNumbers → Bool → ResolvedElement
+elementFound p c self =
+    record { refusal = 0; found = 1; resolved = p .resolved; resolution = p .resolution; call = c .call; function = c .function; typed = c .typed; «qualifier_type» = c .«qualifier_type»; «contains_self» = cond self 1 0 }
+
+abbrev pub elementResolved : Resolved → ResolvedElement
+elementResolved (resolved.Refused r) = nothingResolved (numberOf r)
+elementResolved resolved.NoSuchElement = nothingResolved 0
+elementResolved (resolved.At e) = elementFound (pathNumbers (e .path)) (callNumbers (e .call)) (e .«contains_self»)
