@@ -3,6 +3,7 @@ use ssr::NamedPlaceholder;
 use ssr::RawCode;
 use ssr::ReadTokens;
 use ssr::rule_exports::BuiltRules;
+use ssr::rule_exports::ResolvedElement;
 use words::buffer;
 use words::buffer::Placed;
 use words::texts;
@@ -128,6 +129,22 @@ pub fn is_built(answer: BuiltRules, expected: &[u8]) -> bool {
         low(answer.pair),
         low(answer.form),
         answer.template,
+    ];
+    is_words(&words, expected)
+}
+
+// Whether the answer of resolving has the expected bytes, and then 0.
+pub fn is_resolved(answer: ResolvedElement, expected: &[u8]) -> bool {
+    let words = [
+        answer.refusal,
+        answer.found,
+        answer.resolved,
+        answer.resolution,
+        answer.call,
+        answer.function,
+        answer.typed,
+        answer.qualifier_type,
+        answer.contains_self,
     ];
     is_words(&words, expected)
 }

@@ -76,6 +76,7 @@ fn is_right(operation: usize, parts: &[u8]) -> bool {
         4 => checks::check_file(parts),
         5 => checks::check_rule_tree(parts),
         6 => rule_checks::build_rules(parts),
+        7 => rule_checks::resolve(parts),
         _ => false,
     }
 }
@@ -84,7 +85,7 @@ fn is_right(operation: usize, parts: &[u8]) -> bool {
 fn place(operation: usize, right: bool) -> usize
     ensures { λ r. ⌜ r < 16 ⌝ }
 {
-    if 7 <= operation {
+    if 8 <= operation {
         return 1;
     }
     if right {
@@ -139,6 +140,7 @@ fn main() {
     print(b"check file trees", counts[8], counts[9]);
     print(b"check rule trees", counts[10], counts[11]);
     print(b"build rules", counts[12], counts[13]);
+    print(b"resolve", counts[14], counts[15]);
     if 0 < counts[1] {
         print(b"unknown operations", counts[0], counts[1]);
     }
