@@ -6,9 +6,11 @@ mod comparison;
 mod library;
 mod plain;
 mod rules;
+mod rules_bench;
 mod rules_sample;
 mod sample;
 mod small_stack;
+mod timing;
 mod tree_bench;
 mod tree_sample;
 mod trees;
@@ -45,13 +47,13 @@ fn run(arguments: &[&str]) -> Result<bool, String> {
         ["corpus"] => corpus_lists(),
         ["generated", seed, count] => Ok(generated(number(seed)?, number(count)?)),
         ["trees", "corpus"] => trees::corpus(),
-        ["trees", "damaged", seed, count] => trees::damaged(number(seed)?, number(count)?),
+        ["trees", "damaged", seed, count] => Ok(trees::damaged(number(seed)?, number(count)?)),
         ["rules", "corpus"] => rules::corpus(),
         ["rules", "generated", seed, count] => Ok(rules::generated(number(seed)?, number(count)?)),
         ["rules", "damaged", seed, count] => Ok(rules::damaged(number(seed)?, number(count)?)),
         ["bench"] => {
             bench::run();
-            Ok(tree_bench::run())
+            Ok(tree_bench::run() & rules_bench::run())
         }
         ["sample", seed, count] => {
             let sample = sample::make(number(seed)?, number(count)? as usize)?;

@@ -13,6 +13,7 @@ use judge::{Backing, Sides, WholeRules};
 
 use crate::for_each_case;
 use crate::library::rules::{build_rules, resolve};
+use crate::small_stack::{OF_RESOLVING, OF_TREES, on_stack};
 use tally::Tally;
 pub use tally::sort;
 
@@ -46,8 +47,21 @@ pub struct Question {
 }
 
 impl Operation {
+    /// The library's answers, on a small stack.
+    fn ask_all(self, rules: &Rules, questions: &[Question]) -> Vec<Result<Answer, String>> {
+        let ask = |question: &Question| self.ask(rules, *question);
+        on_stack(self.stack(), || questions.iter().map(ask).collect())
+    }
+
+    fn stack(self) -> usize {
+        match self {
+            Operation::Building => OF_TREES,
+            Operation::Resolving => OF_RESOLVING,
+        }
+    }
+
     /// The library's answer; a struct that is none is the error.
-    fn ask(self, rules: &Rules, question: Question) -> Result<Answer, String> {
+    pub fn ask(self, rules: &Rules, question: Question) -> Result<Answer, String> {
         let Question { rule, side, element } = question;
         match self {
             Operation::Building => {
@@ -68,7 +82,7 @@ impl Operation {
         }
     }
 
-    fn backing(self, whole: &WholeRules) -> &Backing {
+    pub fn backing(self, whole: &WholeRules) -> &Backing {
         match self {
             Operation::Building => &whole.built.backing,
             Operation::Resolving => &whole.resolved.backing,

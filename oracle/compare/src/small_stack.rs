@@ -1,19 +1,23 @@
 //! The library on a thread with a small stack.
 
+use std::panic::resume_unwind;
 use std::thread;
 
-use input::TreeCheck;
+/// The index of facts and its spare, while they are checked.
+const CHECK: usize = 2 * 16_384 * 8;
+/// The tables of resolving: an index and its spare, the paths and the calls.
+const TABLES: usize = 2 * 16_384 * 8 + 2 * 16_384 * 4;
 
-use crate::library;
+/// For trees with facts and for building, with 256 KiB for all else.
+pub const OF_TREES: usize = CHECK + 256 * 1024;
+/// For resolving, which has its tables while it checks, with 64 KiB for all else: 16 KiB are too little.
+pub const OF_RESOLVING: usize = TABLES + CHECK + 64 * 1024;
 
-/// What the library's own arrays take, and 256 KiB more for all else.
-pub const STACK: usize = 2 * 16_384 * 8 + 256 * 1024;
-
-/// The numbers of trees with facts; a stack that is used up ends the program.
-pub fn check_trees(checks: &[&TreeCheck]) -> Result<Vec<u32>, String> {
-    let numbers = || checks.iter().map(|check| library::check_tree(check)).collect();
-    thread::scope(|scope| {
-        let thread = thread::Builder::new().stack_size(STACK).spawn_scoped(scope, numbers);
-        thread.map_err(|error| error.to_string())?.join().map_err(|_| "a thread failed".into())
-    })
+/// Does some work on a stack of so many bytes; one that is used up ends the program.
+pub fn on_stack<T: Send>(bytes: usize, work: impl FnOnce() -> T + Send) -> T {
+    let result = thread::scope(|scope| {
+        let thread = thread::Builder::new().stack_size(bytes).spawn_scoped(scope, work);
+        thread.expect("a thread can be started").join()
+    });
+    result.unwrap_or_else(|payload| resume_unwind(payload))
 }

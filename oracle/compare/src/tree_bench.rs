@@ -1,7 +1,7 @@
 //! The time for the file's tree and for its facts: the library, and plain Rust.
 
 use std::hint::black_box;
-use std::time::{Duration, Instant};
+use std::time::Duration;
 
 use checker::check_tree;
 use generator::bent_trees::bend_copy;
@@ -10,12 +10,10 @@ use generator::{Rng, trees};
 use input::File;
 use input::build::{Syntax, fact, node, token};
 
+use crate::timing::medians;
 use crate::{library, plain};
 
 const SIZES: [usize; 3] = [1_000, 4_000, 16_383];
-const ROUNDS: usize = 21;
-/// How long a round takes about, so that a clock's own time does not count.
-const ROUND: Duration = Duration::from_millis(5);
 
 /// What is made of a size: a tree of so many elements, or a tree with so many facts.
 type Make = fn(usize) -> File;
@@ -97,30 +95,4 @@ fn report(name: &str, what: &str, make: Make, unit: fn(usize, Duration) -> f64) 
         );
     }
     equal
-}
-
-/// The times of a call of each, in rounds that take turns, since the machine may have other work.
-fn medians(works: [&dyn Fn() -> u32; 2]) -> [Duration; 2] {
-    let repeats = works.map(|work| {
-        let once = timed(1, work).as_nanos().max(1);
-        (ROUND.as_nanos() / once).clamp(1, 10_000) as u32
-    });
-    let mut rounds = [const { Vec::new() }; 2];
-    for _ in 0..ROUNDS {
-        for (i, work) in works.iter().enumerate() {
-            rounds[i].push(timed(repeats[i], work) / repeats[i]);
-        }
-    }
-    rounds.map(|mut times| {
-        times.sort();
-        times[ROUNDS / 2]
-    })
-}
-
-fn timed(repeats: u32, work: impl Fn() -> u32) -> Duration {
-    let start = Instant::now();
-    for _ in 0..repeats {
-        black_box(work());
-    }
-    start.elapsed()
 }

@@ -5,10 +5,12 @@ use std::collections::BTreeMap;
 use checker::check_tree;
 use corpus::case::Case;
 use generator::bent_trees::{HARMLESS, bend_copy};
-use generator::{tree_limits, trees};
+use generator::tree_limits::{self, Limit};
+use generator::trees;
 use input::TreeCheck;
 
-use crate::{for_each_case, library, small_stack};
+use crate::small_stack::{OF_TREES, on_stack};
+use crate::{for_each_case, library};
 
 /// Damaged copies of one tree.
 const COPIES: u64 = 16;
@@ -93,8 +95,8 @@ impl Tally {
 }
 
 /// Trees at the limits, then `count` damaged copies of well-formed trees.
-pub fn damaged(seed: u64, count: u64) -> Result<bool, String> {
-    let limits = limits()?;
+pub fn damaged(seed: u64, count: u64) -> bool {
+    let limits = limits();
     let mut tally = Tally::default();
     let (mut whole, mut number) = (TreeCheck::default(), 0);
     let mut files = 0;
@@ -111,15 +113,16 @@ pub fn damaged(seed: u64, count: u64) -> Result<bool, String> {
     }
     println!("{files} damaged copies of the file's trees, {} of rules' trees", count - files);
     let (equal, harmless) = (tally.print(), tally.print_idle());
-    Ok(limits && equal && harmless)
+    limits && equal && harmless
 }
 
 /// Every tree at a limit has the expected number, in the library on a small stack.
-fn limits() -> Result<bool, String> {
+fn limits() -> bool {
     let limits = tree_limits::all();
-    let checks: Vec<&TreeCheck> = limits.iter().map(|(_, check, _)| check).collect();
+    let number = |(_, check, _): &Limit| library::check_tree(check);
+    let numbers: Vec<u32> = on_stack(OF_TREES, || limits.iter().map(number).collect());
     let mut different = 0;
-    for ((name, check, wanted), found) in limits.iter().zip(small_stack::check_trees(&checks)?) {
+    for ((name, check, wanted), found) in limits.iter().zip(numbers) {
         let whose = if check.rule.is_some() { "a rule's" } else { "the file's" };
         println!("{wanted:3}  {whose}: {name}");
         let checker = check_tree(check);
@@ -128,9 +131,8 @@ fn limits() -> Result<bool, String> {
             println!("     different: the library has {found}, the checker {checker}");
         }
     }
-    let (count, stack) = (limits.len(), small_stack::STACK);
-    println!("{count} limits, on a stack of {stack} bytes: {different} different");
-    Ok(different == 0)
+    println!("{} limits, on a stack of {OF_TREES} bytes: {different} different", limits.len());
+    different == 0
 }
 
 /// Every tree of a corpus passes where its list does.

@@ -8,6 +8,7 @@ mod damage;
 mod derive;
 mod facts;
 mod grammar;
+pub mod growing_rules;
 mod jobs;
 mod kinds;
 mod limits;

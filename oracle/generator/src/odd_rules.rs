@@ -27,8 +27,7 @@ struct Care {
 pub fn random(seed: u64, index: u64, most: usize) -> Rules {
     let rng = &mut Rng::new(&[SALT, seed, index]);
     if rng.chance(10) {
-        let draft = draft(rng);
-        return encode(&draft.pairs, &draft.fact_text);
+        return of_grammar(rng);
     }
     let care = Care { whole: rng.chance(30), fed: rng.chance(75) };
     let mut fact_text = b"..".to_vec();
@@ -36,6 +35,12 @@ pub fn random(seed: u64, index: u64, most: usize) -> Rules {
     let count = if rng.one_in(60) { 0 } else { count };
     let pairs: Vec<Pair> = (0..count).map(|_| pair(rng, most, care, &mut fact_text)).collect();
     encode(&pairs, &fact_text)
+}
+
+/// Rules like those that a parser makes.
+pub fn of_grammar(rng: &mut Rng) -> Rules {
+    let draft = draft(rng);
+    encode(&draft.pairs, &draft.fact_text)
 }
 
 fn pair(rng: &mut Rng, most: usize, care: Care, fact_text: &mut Vec<u8>) -> Pair {

@@ -5,6 +5,7 @@ use crate::facts::paths;
 use crate::kinds::*;
 use crate::limits::{deep_tree, number_side, one_to_two, side};
 use crate::parts::*;
+use crate::tree_limits;
 use input::build::{Syntax, fact, node, token, token_list};
 use input::pairs::{ROW, encode};
 use input::words::{END, START, word};
@@ -214,8 +215,16 @@ pub fn large() -> Vec<Vector> {
         ("paths that are not usable, the last without a fact", vec![missing], [0, 22]),
         ("paths that claim one call", vec![resolved(&call, 7)], [0, 0]),
         ("chains of qualifiers", vec![resolved(&chains, 0)], [0, 0]),
+        ("depth 128 on both sides", vec![deep_sides()], [0, 0]),
     ];
     vectors.map(|(name, pairs, numbers)| (name, encode(&pairs, b""), numbers)).to_vec()
+}
+
+/// The largest trees of the greatest depth.
+fn deep_sides() -> Pair {
+    let mut side = Side::default();
+    side.trees[0].words = tree_limits::chains(MOST, 128).tree;
+    Pair { pattern: side.clone(), has_template: true, template: side }
 }
 
 /// The most elements of a tree, and the longest chain of paths below a root.

@@ -12,7 +12,7 @@ use checker::refused;
 use input::{Answer, Operation, Outcome};
 use predicates::Difference;
 use ssr::{NotFed, Stopped};
-pub use whole_rules::{Backing, Held, JudgedSide, Sides, WholeRules, whole_rules};
+pub use whole_rules::{Backing, Held, JudgedSide, Sides, WholeRules, whole_rules, without_facts};
 
 /// What is known of an operation.
 #[derive(Debug, Default)]

@@ -85,7 +85,8 @@ pub fn whole_rules(rules: &Rules) -> WholeRules {
     }
 }
 
-fn without_facts(mut pair: Pair) -> Pair {
+/// The pair as building sees it.
+pub fn without_facts(mut pair: Pair) -> Pair {
     for tree in pair.pattern.trees.iter_mut().chain(&mut pair.template.trees) {
         tree.facts.clear();
     }

@@ -69,19 +69,26 @@ pub struct Nested(SsrMatches);
 impl<'db> Finder<'db> {
     /// Builds and resolves the rules, or gives the crate's refusal (as [`build`], or 22).
     pub fn new(workspace: &'db Workspace) -> Result<Finder<'db>, Stopped> {
+        let mut finder = Finder::without_names(workspace)?;
+        let names = workspace.pairs.iter().map(|pair| placeholder_names(&pair.pattern_list));
+        let names: Vec<Vec<String>> = names.collect::<Result<_, _>>()?;
+        let of_rule = |rule: &BuiltRule| names[rule.pair as usize].clone();
+        finder.names = finder.built.iter().map(of_rule).collect();
+        Ok(finder)
+    }
+
+    /// The same without the names of placeholders, which only matches need. They are the dear part, and
+    /// none of the crate's own, so this is for timing.
+    pub fn without_names(workspace: &'db Workspace) -> Result<Finder<'db>, Stopped> {
         let sema = Semantics::new(&workspace.db);
         let position = FilePosition { file_id: EditionedFileId, offset: 0.into() };
         let scope = ResolutionScope::new(&sema, position).ok_or(NotFed::Malformed)?;
         let mut finder =
             Finder { workspace, sema, rules: Vec::new(), built: Vec::new(), names: Vec::new() };
-        for (pair, parsed) in workspace.pairs.iter().zip(parse_pairs(workspace)?) {
-            let names = placeholder_names(&pair.pattern_list)?;
-            for rule in parsed {
-                finder.built.push(built_rule(&rule));
-                finder.names.push(names.clone());
-                let index = finder.rules.len();
-                finder.rules.push(run(|| ResolvedRule::new(rule, &scope, index))??);
-            }
+        for rule in parse_pairs(workspace)?.into_iter().flatten() {
+            finder.built.push(built_rule(&rule));
+            let index = finder.rules.len();
+            finder.rules.push(run(|| ResolvedRule::new(rule, &scope, index))??);
         }
         Ok(finder)
     }

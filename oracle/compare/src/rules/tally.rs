@@ -44,8 +44,9 @@ impl Tally {
         for operation in OPERATIONS {
             let numbers = &mut self.counts[operation as usize].numbers;
             *numbers.entry(operation.number(&whole)).or_default() += 1;
-            for question in operation.questions(&whole) {
-                if let Err(what) = self.compare(rules, &whole, operation, question) {
+            let questions = operation.questions(&whole);
+            for (question, found) in questions.iter().zip(operation.ask_all(rules, &questions)) {
+                if let Err(what) = self.compare(&whole, operation, *question, found) {
                     self.note(rules, format!("{}: {operation:?}: {question:?}: {what}", name()));
                 }
             }
@@ -55,16 +56,16 @@ impl Tally {
 
     fn compare(
         &mut self,
-        rules: &Rules,
         whole: &WholeRules,
         operation: Operation,
         question: Question,
+        found: Result<Answer, String>,
     ) -> Result<(), String> {
         let judged = operation.judged(whole, question);
         *self.answers.entry(sort(&judged)).or_default() += 1;
         let counts = &mut self.counts[operation as usize];
         let result = counts.judge(operation.backing(whole));
-        let result = result.and_then(|()| same(operation.ask(rules, question), Ok(judged)));
+        let result = result.and_then(|()| same(found, Ok(judged)));
         *if result.is_ok() { &mut counts.equal } else { &mut counts.different } += 1;
         result
     }
@@ -113,8 +114,10 @@ impl Counts {
     fn print(&self, operation: Operation) {
         let Counts { equal, different, by_crate, by_checker, listed, .. } = self;
         println!(
-            "{operation:?}: {} answers, {equal} equal, {different} different; {by_crate} are the crate's \
-             own, {by_checker} the checker's alone, {listed} the checker's by a listed difference",
+            "{operation:?}, on a stack of {} bytes: {} answers, {equal} equal, {different} different; \
+             {by_crate} are the crate's own, {by_checker} the checker's alone, {listed} the checker's by a \
+             listed difference",
+            operation.stack(),
             equal + different
         );
     }
