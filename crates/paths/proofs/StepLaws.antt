@@ -8,12 +8,10 @@ use native.Mathlib.Omega.{arith}
 use lib.Dec.{ltb}
 use lib.ListN.{length, set}
 use borrow.Author.Tests.{eq-eqb, ne-eqb, lt-ltb, le-ltb, ltb-true}
-use Rattle.words.specs.Fields.{isToken}
 use Rattle.words.proofs.TestLaws.{low-or}
 use Rattle.syntax.specs.Trees.{Elems, elems}
 use Rattle.syntax.specs.Accessors.{children, numberOf, nodeIn}
-use Rattle.syntax.proofs.TreeLaws.{elems-token, elems-node}
-use Rattle.syntax.proofs.AccessorLaws.{node-none}
+use Rattle.syntax.proofs.AccessorLaws.{number-is, node-none}
 use Rattle.facts.proofs.FactLaws.{length-facts}
 use Rattle.paths.specs.Names.{isSelf, containsTypeArguments, containsPlaceholder}
 use Rattle.paths.specs.Steps.{Side, flagsAt, isAssociated, pathPlace, byFact, step}
@@ -21,14 +19,7 @@ use Rattle.paths.specs.Resolved.{Note, claimBy}
 use Rattle.paths.specs.Tables.{noted, callNumber}
 use Rattle.paths.specs.declared.resolving.Step.the-variants.{Skips, Fails, Resolves, Enters}
 
--- the number of a part's first element
-number-of : (i : ℕ) (l : List ℕ) → 3 ≤ length l → (b : Bool) → isToken l ≡ b → numberOf (elems i l) ≡ i
-number-of i l h true t = rw (elems-token i l h t)
-number-of i l h false t = rw (elems-node i l h t)
-
-pub number-is : (i : ℕ) (l : List ℕ) → 3 ≤ length l → numberOf (elems i l) ≡ i
-number-is i l h = number-of i l h (isToken l) refl
-
+-- the number of a node of some kinds
 pub number-in : (low high i : ℕ) (l : List ℕ) → nodeIn low high (elems i l) ≡ true → numberOf (elems i l) ≡ i
 number-in low high i l h =
     low-or (length l) 3 (λ s. absurd (false≢true (sym (node-none low high i l s) ∙ h))) (λ k. number-is i l k)

@@ -11,12 +11,11 @@ use Rattle.syntax.specs.Parts.{span, restWords}
 use Rattle.syntax.specs.Trees.{Elems, none, token, node, elems}
 use Rattle.syntax.specs.Accessors.{children, rest, numberOf, some}
 use Rattle.syntax.proofs.TreeLaws.{elems-end}
-use Rattle.syntax.proofs.AccessorLaws.{rest-are, some-is}
+use Rattle.syntax.proofs.AccessorLaws.{number-is, rest-are, some-is}
 use Rattle.paths.specs.Steps.{Side, flagsAt, step}
 use Rattle.paths.specs.Resolved.{Note, failsAt, isUnresolved, pathsAt, resolvedPaths, claimBy, claimsAt, claims}
 use Rattle.paths.specs.Tables.{noted, callNumber, Leaves, AtElement, AtSiblings, Room}
 use Rattle.paths.specs.declared.resolving.Step.the-variants.{Skips, Fails, Resolves, Enters}
-use Rattle.paths.proofs.StepLaws.{number-is}
 
 -- notes in turn
 pub noted-append : (xs ys : List Note) (t : List ℕ) → noted (xs ++ ys) t ≡ noted ys (noted xs t)

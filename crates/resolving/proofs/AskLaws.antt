@@ -1,7 +1,7 @@
 -- What is asked of a rule: its tree's tables, its pair, and that it is one of those left.
 -- Assumes nothing.
 use mathlib.Core.Path.{_≡_, refl, sym, ap, _∙_}
-use mathlib.Core.Bool.{Bool, true, false, cond, not, _&&_, _||_, true≢false, false≢true}
+use mathlib.Core.Bool.{Bool, true, false, not, false≢true}
 use mathlib.Core.List.{List, [], _∷_, map}
 use Prim.Native.Nat.{ℕ, zero, suc, _+_, _-_, _/_, _≤_, _<_}
 use native.Mathlib.Omega.{arith}
@@ -17,7 +17,6 @@ use Rattle.syntax.specs.Trees.{tree}
 use Rattle.syntax.specs.Accessors.{hasElement}
 use Rattle.fragments.specs.Directory.{counted, rowCount}
 use Rattle.fragments.specs.Pairs.{Pair, pairOf, pairsOf, pairs, pairAt, treeOf, factsOf, five}
-use Rattle.rules.specs.declared.forms.TemplateTree.{TemplateTree}
 use Rattle.rules.specs.declared.numbering.Rule.{Rule}
 use Rattle.rules.specs.declared.numbering.Found.{Found}
 use Rattle.rules.specs.declared.numbering.Found.the-variants.{NoSuchRule, At}
@@ -35,7 +34,6 @@ use Rattle.paths.specs.Tables.{TablesOf}
 use Rattle.resolving.specs.RulePaths.{sideAt, treeFails, templateFails, ruleFails, formFails, pairFails, pathsOutcome}
 use Rattle.resolving.specs.Resolving.{inTree, resolveOutcome}
 use Rattle.resolving.specs.Needs.{Left, Passed}
-use Rattle.resolving.specs.declared.asking.Resolved.{Resolved}
 use Rattle.resolving.specs.declared.asking.Resolved.the-variants as resolved
 use Rattle.resolving.proofs.FailLaws.{five-at, pairs-next}
 

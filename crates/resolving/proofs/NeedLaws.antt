@@ -1,9 +1,9 @@
 -- Trees that passed are well-formed with their facts, and tables that are large enough have room for them.
 -- Assumes nothing.
-use mathlib.Core.Path.{_≡_, refl, sym, ap, _∙_}
+use mathlib.Core.Path.{_≡_, refl, sym, _∙_}
 use mathlib.Core.Bool.{Bool, true, false, not, cond, _&&_, true≢false}
-use mathlib.Core.List.{List, [], _∷_}
-use Prim.Native.Nat.{ℕ, zero, suc, _+_, _-_, _*_, _/_, _≤_}
+use mathlib.Core.List.{List, []}
+use Prim.Native.Nat.{ℕ, zero, suc, _-_, _/_, _≤_}
 use native.Mathlib.Omega.{arith}
 use lib.Dec.{eqb, leb}
 use lib.ListN.{length, take, drop, length-take, length-drop}
@@ -26,7 +26,6 @@ use Rattle.fragments.specs.Pairs.{Pair, listOf, textOf, codeOf, isGiven, treeOf
 use Rattle.rules.specs.Stages.{ownerOf, treeOutcome, sideOutcome, treesOutcome}
 use Rattle.paths.specs.Steps.{sideOf}
 use Rattle.paths.specs.Tables.{HasFacts, TablesOf}
-use Rattle.paths.proofs.TableLaws.{has-few}
 use Rattle.resolving.specs.RulePaths.{varsOf, patternOf, sideAt}
 use Rattle.resolving.specs.Needs.{Passed, Roomy}
 

@@ -6,7 +6,7 @@ use mathlib.Core.Bool.{Bool, false, _&&_, _||_}
 use mathlib.Core.List.{List, [], _∷_, map}
 use Rattle.errors.specs.declared.Outcome.{Outcome}
 use Rattle.errors.specs.declared.Refusal.the-variants.{UnresolvedPath}
-use Rattle.errors.specs.Refusals.{Check, firstOf}
+use Rattle.errors.specs.Refusals.{firstOf}
 use Rattle.parsing.specs.declared.patterns.Pattern.{Pattern}
 use Rattle.parsing.specs.Reading.{Var, vars, Reading, read, refused, reading}
 use Rattle.parsing.specs.Answers.{answerOf}

@@ -1,6 +1,6 @@
 -- The rules left, one pair after the other.
 -- Assumes nothing.
-use mathlib.Core.Path.{_≡_, refl, sym, ap, _∙_}
+use mathlib.Core.Path.{_≡_, refl, ap, _∙_}
 use mathlib.Core.Bool.{true, false}
 use mathlib.Core.List.{List, [], _∷_, _++_, map}
 use Prim.Native.Nat.{ℕ, zero, suc, _+_, _-_, _≤_, _<_}
@@ -11,7 +11,6 @@ use Rattle.fragments.specs.Pairs.{Pair, pairOf, pairsOf}
 use Rattle.rules.specs.Forms.{formsLeft}
 use Rattle.rules.specs.Numbering.{ruleOf, rulesFrom, ruleAt}
 use Rattle.rules.specs.declared.numbering.Rule.{Rule}
-use Rattle.rules.specs.declared.numbering.Found.{Found}
 use Rattle.rules.specs.declared.numbering.Found.the-variants.{NoSuchRule, At}
 
 -- no pairs have no rules; else the first pair's, and the others'

@@ -2,10 +2,9 @@
 -- Assumes nothing.
 use mathlib.Core.Path.{_≡_, refl, sym, ap, _∙_}
 use mathlib.Core.Bool.{Bool, true, false}
-use mathlib.Core.List.{List, [], _∷_, map}
+use mathlib.Core.List.{List, [], _∷_}
 use Prim.Native.Nat.{ℕ, zero, suc, _-_, _<_}
 use native.Mathlib.Omega.{arith}
-use lib.Dec.{leb}
 use lib.ListN.{length, drop}
 use borrow.Author.Tests.{le-leb}
 use Rattle.errors.specs.declared.Outcome.{Outcome}
@@ -15,7 +14,7 @@ use Rattle.errors.specs.Refusals.{numberOf, lowestOf, lowest, firstOf, inTurn}
 use Rattle.errors.proofs.Laws.{lowest-accepted, lowest-of-three, both-pass, turn-passes, turn-refuses, turn-both, turn-last}
 use Rattle.fragments.specs.Directory.{counted, isDirectory}
 use Rattle.errors.specs.declared.Refusal.the-variants.{MalformedList, NoForm}
-use Rattle.parsing.specs.Reading.{Element, Reading, read, refused, reading}
+use Rattle.parsing.specs.Reading.{Element, read, refused, reading}
 use Rattle.trees.specs.Given.{rightText}
 use Rattle.fragments.specs.Pairs.{Pair, pairOf, pairsOf, pairs, listOf, textOf, codeOf, isGiven, five}
 use Rattle.rules.specs.Forms.{hasRule}

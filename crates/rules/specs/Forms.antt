@@ -2,8 +2,8 @@
 -- "Modules", 2: "A statement template stands in for a missing expression template. If any rule of one pair has a PATH in its pattern, that
 -- pair's rules without one there go."
 -- Assumes nothing.
-use Prim.Native.Nat.{ℕ, zero, suc, _+_}
-use mathlib.Core.Bool.{Bool, true, false, cond, not, _&&_, _||_}
+use Prim.Native.Nat.{ℕ, _+_}
+use mathlib.Core.Bool.{Bool, true, false, cond, _&&_, _||_}
 use mathlib.Core.List.{List, [], _∷_}
 use lib.Dec.{eqb}
 use Rattle.syntax.specs.Trees.{tree}

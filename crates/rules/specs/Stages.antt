@@ -8,7 +8,7 @@ use mathlib.Core.List.{List, [], _∷_, map}
 use lib.Dec.{eqb}
 use Rattle.errors.specs.declared.Outcome.{Outcome}
 use Rattle.errors.specs.declared.Refusal.the-variants.{MalformedList, NoForm}
-use Rattle.errors.specs.Refusals.{lowestOf, lowest, Check, firstOf, inTurn}
+use Rattle.errors.specs.Refusals.{lowestOf, lowest, firstOf, inTurn}
 use Rattle.validating.specs.Pairs.{pairOutcome}
 use Rattle.facts.specs.declared.Owner.{Owner}
 use Rattle.facts.specs.declared.Owner.the-variants.{Pattern, Template}

@@ -6,7 +6,7 @@ ghost use mathlib.Core.Bool.{cond};
 ghost use Prim.Native.Nat.{_≤_, _<_};
 ghost use lib.ListN.{length, getD};
 ghost use Rattle.fragments.specs.Pairs.{inWords, isPresent, five};
-ghost use Rattle.rules.specs.Forms.{templateTree, isThere, isRule, hasPath, isPathRule, any, isLeft, kept};
+ghost use Rattle.rules.specs.Forms.{templateTree, isThere, isRule, isPathRule, any, isLeft, kept};
 
 // The template's tree of a rule.
 pub enum TemplateTree {

@@ -1,16 +1,13 @@
 -- `fragments::directory::counted_before` meets its contract.
 -- Assumes nothing.
 use mathlib.Core.Path.{_≡_, _∙_, sym}
-use Prim.Native.Nat.{ℕ, _+_, _*_, _-_, _≤_}
+use Prim.Native.Nat.{_*_, _-_, _≤_}
 use native.Mathlib.Omega.{arith}
 use denote.Ref.{now}
 use Rattle.fragments.specs.Directory.{before}
 use Rattle.fragments.proofs.DirectoryLaws.{before-start, before-next}
 use Rattle.fragments.proofs.directory.counted_before.Statement.{statement}
 use Rattle.fragments.proofs.directory.counted_before.Tie as tie
-use Rattle.fragments.proofs.directory.counted_before.Reads as reads
-use Rattle.fragments.proofs.directory.counted_before.Lts as lts
-use Rattle.fragments.proofs.directory.count_at.Reads as count-at-reads
 
 abbrev Inv-loop : tie.InvT-loop
 Inv-loop row words k sum₀ i₀ sum i = (sum ≡ before words i row) × (i ≤ k) × (sum ≤ 4294967295 * i)
@@ -25,7 +22,9 @@ count-at-requires : tie.Need-count-at-requires Inv-loop μ-loop
 count-at-requires c κs = tt
 
 add-sum : tie.Need-add-sum Inv-loop μ-loop
-add-sum c = omega (arith, c .before .before .loop .inv .2, c .count-at .ensures .1, c .before .before .loop .inv .1)
+add-sum c =
+    let c₂ = c .before .before in
+    omega (arith, c₂ .loop .inv .2, c .count-at .ensures .1, c₂ .loop .inv .1)
 
 add-i : tie.Need-add-i Inv-loop μ-loop
 add-i c = omega arith
@@ -34,10 +33,21 @@ loop-less : tie.Need-loop-less Inv-loop μ-loop
 loop-less c = omega arith
 
 loop-again : tie.Need-loop-again Inv-loop μ-loop
-loop-again c = (rw (c .before .before .loop .inv .0, c .count-at .ensures .0) (sym (before-next _ (c .before .before .loop .i) (now (c .before .before .before .before .args .row)))), omega arith, omega (arith, c .before .before .loop .inv .2, c .count-at .ensures .1))
+loop-again c =
+    let c₂ = c .before .before in let c₄ = c₂ .before .before in (
+      rw (c₂ .loop .inv .0, c .count-at .ensures .0) (sym (before-next _ (c₂ .loop .i) (now (c₄ .args .row)))),
+      omega arith,
+      omega (
+        arith,
+        c₂ .loop .inv .2,
+        c .count-at .ensures .1,
+      ),
+    )
 
 returns : tie.Need-returns Inv-loop μ-loop
-returns c = let e : c .before .loop .i ≡ c .before .before .before .args .k = omega (arith, c .before .loop .inv .1) in (c .before .loop .inv .0 ∙ rw e, omega (arith, c .before .loop .inv .2, c .before .before .before .pre))
+returns c =
+    let c₁ = c .before in let c₃ = c₁ .before .before in
+    let e : c₁ .loop .i ≡ c₃ .args .k = omega (arith, c₁ .loop .inv .1) in (c₁ .loop .inv .0 ∙ rw e, omega (arith, c₁ .loop .inv .2, c₃ .pre))
 
 pub counted-before-spec : {M : Type 1} → statement M
 counted-before-spec =

@@ -1,10 +1,7 @@
 -- `fragments::directory::counts` meets its contract.
 -- Assumes nothing.
-use mathlib.Core.Path.{_≡_, sym, ap}
 use Rattle.fragments.proofs.directory.counts.Statement.{statement}
 use Rattle.fragments.proofs.directory.counts.Tie as tie
-use Rattle.fragments.proofs.directory.counts.Reads as reads
-use Rattle.fragments.proofs.directory.counts.Lts as lts
 
 returns : tie.Need-returns
 returns c = rw (c .if1 .taken)

@@ -4,11 +4,6 @@ use mathlib.Core.Path.{_∙_}
 use borrow.Author.Needs.{needs}
 use Rattle.fragments.proofs.pairs.byte_part.Statement.{statement}
 use Rattle.fragments.proofs.pairs.byte_part.Tie as tie
-use Rattle.fragments.proofs.pairs.byte_part.Reads as reads
-use Rattle.fragments.proofs.pairs.byte_part.Lts as lts
-use Rattle.fragments.proofs.directory.counted_before.Reads as counted-before-reads
-use Rattle.fragments.proofs.directory.entry.Reads as entry-reads
-use Rattle.words.proofs.texts.part_of.Reads as part-of-reads
 
 counted-before-requires : tie.Need-counted-before-requires
 counted-before-requires c κs = search needs
@@ -23,7 +18,9 @@ part-of-requires : tie.Need-part-of-requires
 part-of-requires c κs = search needs
 
 returns : tie.Need-returns
-returns c = c .part-of .ensures ∙ rw (c .before .before .counted-before .ensures .0, c .before .entry .ensures .0)
+returns c =
+    let c₁ = c .before in let c₂ = c₁ .before in
+    c .part-of .ensures ∙ rw (c₂ .counted-before .ensures .0, c₁ .entry .ensures .0)
 
 pub byte-part-spec : {M : Type 1} → statement M
 byte-part-spec =

@@ -3,9 +3,6 @@
 use borrow.Author.Needs.{needs}
 use Rattle.fragments.proofs.pairs.is_given.Statement.{statement}
 use Rattle.fragments.proofs.pairs.is_given.Tie as tie
-use Rattle.fragments.proofs.pairs.is_given.Reads as reads
-use Rattle.fragments.proofs.pairs.is_given.Lts as lts
-use Rattle.fragments.proofs.directory.entry.Reads as entry-reads
 
 entry-requires : tie.Need-entry-requires
 entry-requires c κs = search needs

@@ -4,10 +4,6 @@ use mathlib.Core.Path.{_∙_}
 use borrow.Author.Needs.{needs}
 use Rattle.fragments.proofs.pairs.next_bytes.Statement.{statement}
 use Rattle.fragments.proofs.pairs.next_bytes.Tie as tie
-use Rattle.fragments.proofs.pairs.next_bytes.Reads as reads
-use Rattle.fragments.proofs.pairs.next_bytes.Lts as lts
-use Rattle.fragments.proofs.directory.counted_before.Reads as counted-before-reads
-use Rattle.words.proofs.texts.tail.Reads as tail-reads
 
 counted-before-requires : tie.Need-counted-before-requires
 counted-before-requires c κs = search needs

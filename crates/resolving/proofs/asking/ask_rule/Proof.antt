@@ -1,6 +1,6 @@
 -- `resolving::asking::ask_rule` meets its contract.
 -- Assumes nothing.
-use mathlib.Core.Path.{_≡_, sym, _∙_, ap}
+use mathlib.Core.Path.{sym, _∙_}
 use native.Mathlib.Omega.{arith}
 use borrow.Author.Tests.{eq-eqb, ne-eqb}
 use denote.Ref.{now}
@@ -10,13 +10,19 @@ use Rattle.resolving.proofs.AskLaws.{pattern-good, template-good}
 use borrow.Author.Needs.{needs}
 use Rattle.resolving.proofs.asking.ask_rule.Statement.{statement}
 use Rattle.resolving.proofs.asking.ask_rule.Tie as tie
-use Rattle.resolving.proofs.asking.ask_rule.Reads as reads
-use Rattle.resolving.proofs.asking.ask_rule.Lts as lts
-use Rattle.resolving.proofs.asking.ask_template.Reads as ask-template-reads
-use Rattle.resolving.proofs.asking.ask_tree.Reads as ask-tree-reads
 
 ask-tree-requires : tie.Need-ask-tree-requires
-ask-tree-requires c κs = let s = c .before .before .before .before .before .before .before .before .before .before .before .before in let a = s .args in let p : Pair = pairOf (now (a .row)) (now (a .words)) (now (a .bytes)) in ((omega arith, s .pre .0 .low, left-present p (a .rule .form) (s .pre .0 .left), pattern-good p (a .rule) (s .pre .0)), s .pre .1)
+ask-tree-requires c κs =
+    let c₁₂ = c .before .before .before .before .before .before .before .before .before .before .before .before in
+    let s = c₁₂ in let a = s .args in let p : Pair = pairOf (now (a .row)) (now (a .words)) (now (a .bytes)) in (
+      (
+        omega arith,
+        s .pre .0 .low,
+        left-present p (a .rule .form) (s .pre .0 .left),
+        pattern-good p (a .rule) (s .pre .0),
+      ),
+      s .pre .1,
+    )
 
 same-length : tie.Need-same-length
 same-length c = search needs
@@ -31,10 +37,22 @@ same-length-4 : tie.Need-same-length-4
 same-length-4 c = search needs
 
 returns : tie.Need-returns
-returns c = c .before .before .before .before .before .before .before .before .ask-tree .ensures ∙ sym (rw (eq-eqb _ _ (c .before .before .before .before .before .before .before .before .before .before .before .before .before .if1 .taken)))
+returns c =
+    let c₈ = c .before .before .before .before .before .before .before .before in
+    let c₁₃ = c₈ .before .before .before .before .before in
+    c₈ .ask-tree .ensures ∙ sym (rw (eq-eqb _ _ (c₁₃ .if1 .taken)))
 
 ask-template-requires : tie.Need-ask-template-requires
-ask-template-requires c κs = let s = c .before .before .before .before .before .before .before .before .before .before .before .before .before in let a = s .args in let p : Pair = pairOf (now (a .row)) (now (a .words)) (now (a .bytes)) in ((s .pre .0 .low, s .pre .0 .tree, template-good p (a .rule) (s .pre .0)), s .pre .1)
+ask-template-requires c κs =
+    let c₁₃ = c .before .before .before .before .before .before .before .before .before .before .before .before .before in
+    let s = c₁₃ in let a = s .args in let p : Pair = pairOf (now (a .row)) (now (a .words)) (now (a .bytes)) in (
+      (
+        s .pre .0 .low,
+        s .pre .0 .tree,
+        template-good p (a .rule) (s .pre .0),
+      ),
+      s .pre .1,
+    )
 
 same-length-5 : tie.Need-same-length-5
 same-length-5 c = search needs
@@ -49,7 +67,10 @@ same-length-8 : tie.Need-same-length-8
 same-length-8 c = search needs
 
 returns-2 : tie.Need-returns-2
-returns-2 c = c .before .before .before .before .before .before .before .before .ask-template .ensures ∙ sym (rw (ne-eqb _ _ (c .before .before .before .before .before .before .before .before .before .before .before .before .before .before .if1 .left), eq-eqb _ _ (c .before .before .before .before .before .before .before .before .before .before .before .before .before .if2 .taken)))
+returns-2 c =
+    let c₈ = c .before .before .before .before .before .before .before .before in
+    let c₁₃ = c₈ .before .before .before .before .before in let c₁₄ = c₁₃ .before in
+    c₈ .ask-template .ensures ∙ sym (rw (ne-eqb _ _ (c₁₄ .if1 .left), eq-eqb _ _ (c₁₃ .if2 .taken)))
 
 returns-3 : tie.Need-returns-3
 returns-3 c = sym (rw (ne-eqb _ _ (c .before .if1 .left), ne-eqb _ _ (c .if2 .left)))

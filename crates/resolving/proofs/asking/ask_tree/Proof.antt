@@ -1,9 +1,7 @@
 -- `resolving::asking::ask_tree` meets its contract.
 -- Assumes nothing.
-use mathlib.Core.Path.{_≡_, sym, _∙_, ap}
-use native.Mathlib.Omega.{arith}
+use mathlib.Core.Path.{_≡_, _∙_, ap}
 use denote.Ref.{now}
-use lib.ListN.{length}
 use Rattle.parsing.specs.declared.patterns.ParsedPattern.{ParsedPattern}
 use Rattle.parsing.specs.Reading.{reading}
 use Rattle.parsing.specs.Answers.{answerOf}
@@ -12,17 +10,6 @@ use Rattle.resolving.proofs.AskLaws.{no-element, element-is}
 use borrow.Author.Needs.{needs}
 use Rattle.resolving.proofs.asking.ask_tree.Statement.{statement}
 use Rattle.resolving.proofs.asking.ask_tree.Tie as tie
-use Rattle.resolving.proofs.asking.ask_tree.Reads as reads
-use Rattle.resolving.proofs.asking.ask_tree.Lts as lts
-use Rattle.fragments.proofs.pairs.facts.Reads as facts-reads
-use Rattle.fragments.proofs.pairs.list.Reads as list-reads
-use Rattle.fragments.proofs.pairs.text.Reads as text-reads
-use Rattle.fragments.proofs.pairs.tree.Reads as tree-reads
-use Rattle.parsing.proofs.patterns.parse_pattern.Reads as parse-pattern-reads
-use Rattle.paths.proofs.tables.call_at.Reads as call-at-reads
-use Rattle.paths.proofs.tables.path_at.Reads as path-at-reads
-use Rattle.resolving.proofs.rule_paths.resolve_side.Reads as resolve-side-reads
-use Rattle.syntax.proofs.accessors.contains.Reads as contains-reads
 
 tree-requires : tie.Need-tree-requires
 tree-requires c κs = search needs
@@ -37,16 +24,37 @@ parse-pattern-requires : tie.Need-parse-pattern-requires
 parse-pattern-requires c κs = search needs
 
 resolve-side-requires : tie.Need-resolve-side-requires
-resolve-side-requires c κs = let s = c .before .before .before .before .before .before .before .before .before .before .before .before .before .before .before .before .before in let a = s .args in let p : Pair = pairOf (now (a .row)) (now (a .words)) (now (a .bytes)) in let q = c .before .before .before .before .before .parse-pattern in let e : reading (now (c .before .before .before .before .before .before .before .list .result)) (now (c .before .before .before .before .before .before .text .result)) ≡ reading (listOf 0 p) (textOf 0 p) = rw (c .before .before .before .before .before .before .before .list .ensures, c .before .before .before .before .before .before .text .ensures) in let k = ap (λ (x : ParsedPattern). x .pattern) (q .ensures .0 ∙ ap answerOf e) in ((s .pre .0 .0, s .pre .0 .1, record { eight = q .ensures .1 .1; is = k }), ((s .pre .1 .0, s .pre .0 .2), s .pre .1 .1))
+resolve-side-requires c κs =
+    let c₅ = c .before .before .before .before .before in let c₆ = c₅ .before in let c₇ = c₆ .before in
+    let c₁₇ = c₇ .before .before .before .before .before .before .before .before .before .before in
+    let s = c₁₇ in let a = s .args in let p : Pair = pairOf (now (a .row)) (now (a .words)) (now (a .bytes)) in let q = c₅ .parse-pattern in let e :
+    reading (now (c₇ .list .result)) (now (c₆ .text .result)) ≡ reading (listOf 0 p) (textOf 0 p) = rw (c₇ .list .ensures, c₆ .text .ensures) in let
+    k = ap (λ (x : ParsedPattern). x .pattern) (q .ensures .0 ∙ ap answerOf e) in (
+      (
+        s .pre .0 .0,
+        s .pre .0 .1,
+        record {
+          eight = q .ensures .1 .1;
+          is
+              = k;
+        },
+      ),
+      ((s .pre .1 .0, s .pre .0 .2), s .pre .1 .1),
+    )
 
 facts-requires : tie.Need-facts-requires
-facts-requires c κs = let s = c .before .before .before .before .before .before .before .before .before .before .before .before .before .before .before .before .before .before .before .before .before .before .before .before .before .before in (s .pre .0 .0, s .pre .0 .1)
+facts-requires c κs =
+    let c₂₆ = c .before .before .before .before .before .before .before .before .before .before .before .before .before .before .before .before .before .before .before .before .before .before .before .before .before .before in
+    let s = c₂₆ in (s .pre .0 .0, s .pre .0 .1)
 
 path-at-requires : tie.Need-path-at-requires
 path-at-requires c κs = search needs
 
 call-at-requires : tie.Need-call-at-requires
-call-at-requires c κs = rw (c .before .before .before .before .facts .ensures) (c .before .before .before .before .before .before .before .before .before .before .before .before .before .resolve-side .ensures .0)
+call-at-requires c κs =
+    let c₄ = c .before .before .before .before in
+    let c₁₃ = c₄ .before .before .before .before .before .before .before .before .before in
+    rw (c₄ .facts .ensures) (c₁₃ .resolve-side .ensures .0)
 
 contains-requires : tie.Need-contains-requires
 contains-requires c κs = search needs
@@ -64,10 +72,21 @@ same-length-4 : tie.Need-same-length-4
 same-length-4 c = search needs
 
 returns : tie.Need-returns
-returns c = let s = c .before .before .before .before .before .before .before .before .before .before .before .before .before .before .before .before .before .before .before .before .before .before .before .before .before .before .before .before .before .before .before .before .before in let a = s .args in let p : Pair = pairOf (now (a .row)) (now (a .words)) (now (a .bytes)) in let t = c .before .before .before .before .before .before .before .before .before .before .before .before .before .before .before .before .before .before .before .before .before .before .before .before .before .tree .ensures in let f = c .before .before .before .before .before .before .facts .ensures in element-is p (a .side) (a .form) (a .element) (c .before .before .before .before .before .before .before .before .before .before .before .before .before .before .before .resolve-side .result) _ _ (c .before .before .before .before .before .before .before .before .before .before .before .before .before .before .before .resolve-side .ensures .1) (s .pre .0 .3) (rw (← t) (c .before .before .before .before .before .before .before .before .before .before .before .before .before .before .before .before .before .before .before .before .before .before .before .before .if1 .taken)) (c .before .before .before .before .path-at .result) (c .before .call-at .result) (c .contains .result) (rw (← f) (c .before .before .before .before .path-at .ensures)) (rw (← f) (c .before .call-at .ensures)) (rw (← t) (c .contains .ensures 0))
+returns c =
+    let c₁ = c .before in let c₄ = c₁ .before .before .before in let c₆ = c₄ .before .before in
+    let c₁₅ = c₆ .before .before .before .before .before .before .before .before .before in
+    let c₂₄ = c₁₅ .before .before .before .before .before .before .before .before .before in let c₂₅ = c₂₄ .before in
+    let c₃₃ = c₂₅ .before .before .before .before .before .before .before .before in
+    let s = c₃₃ in let a = s .args in let p : Pair = pairOf (now (a .row)) (now (a .words)) (now (a .bytes)) in let t = c₂₅ .tree .ensures in let f =
+    c₆ .facts .ensures in element-is p (a .side) (a .form) (a .element) (c₁₅ .resolve-side .result) _ _ (c₁₅ .resolve-side .ensures .1)
+    (s .pre .0 .3) (rw (← t) (c₂₄ .if1 .taken)) (c₄ .path-at .result) (c₁ .call-at .result) (c .contains .result) (rw (← f) (c₄ .path-at .ensures))
+    (rw (← f) (c₁ .call-at .ensures)) (rw (← t) (c .contains .ensures 0))
 
 returns-2 : tie.Need-returns-2
-returns-2 c = let s = c .before .before .before .before .before .before .before .before .before in let a = s .args in let p : Pair = pairOf (now (a .row)) (now (a .words)) (now (a .bytes)) in no-element p (a .side) (a .form) (a .element) (rw (← c .before .tree .ensures) (c .if1 .left))
+returns-2 c =
+    let c₁ = c .before in let c₉ = c₁ .before .before .before .before .before .before .before .before in
+    let s = c₉ in let a = s .args in let p : Pair = pairOf (now (a .row)) (now (a .words)) (now (a .bytes)) in no-element p (a .side) (a .form)
+    (a .element) (rw (← c₁ .tree .ensures) (c .if1 .left))
 
 pub ask-tree-spec : {M : Type 1} → statement M
 ask-tree-spec =

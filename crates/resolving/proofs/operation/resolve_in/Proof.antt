@@ -1,6 +1,6 @@
 -- `resolving::operation::resolve_in` meets its contract.
 -- Assumes nothing.
-use mathlib.Core.Path.{_≡_, sym, _∙_}
+use mathlib.Core.Path.{sym, _∙_}
 use native.Mathlib.Nat.{le-refl}
 use denote.Ref.{now}
 use Rattle.rules.specs.declared.stages.Stage.the-variants.{TreesWithFacts}
@@ -10,11 +10,6 @@ use Rattle.resolving.proofs.AskLaws.{resolve-refused, resolve-passes, r
 use borrow.Author.Needs.{needs}
 use Rattle.resolving.proofs.operation.resolve_in.Statement.{statement}
 use Rattle.resolving.proofs.operation.resolve_in.Tie as tie
-use Rattle.resolving.proofs.operation.resolve_in.Reads as reads
-use Rattle.resolving.proofs.operation.resolve_in.Lts as lts
-use Rattle.resolving.proofs.operation.ask.Reads as ask-reads
-use Rattle.resolving.proofs.rule_paths.resolve_pairs.Reads as resolve-pairs-reads
-use Rattle.rules.proofs.stages.check_rules.Reads as check-rules-reads
 
 check-rules-requires : tie.Need-check-rules-requires
 check-rules-requires c κs = search needs
@@ -23,10 +18,31 @@ enum-told : tie.Need-enum-told
 enum-told c = search needs
 
 resolve-pairs-requires : tie.Need-resolve-pairs-requires
-resolve-pairs-requires c κs = let s = c .before .before .before .before .before .before .before .before .before .before .before .before .before .before in let a = s .args in (trees-pass TreesWithFacts (a .fact-bytes) (now (a .directory)) (now (a .words)) (now (a .bytes)) (sym (c .before .before .before .before .before .before .check-rules .ensures) ∙ c .before .before .before .before .enum-told .given .1), s .pre)
+resolve-pairs-requires c κs =
+    let c₄ = c .before .before .before .before in let c₆ = c₄ .before .before in
+    let c₁₄ = c₆ .before .before .before .before .before .before .before .before in
+    let s = c₁₄ in let a = s .args in (
+      trees-pass TreesWithFacts (a .fact-bytes) (now (a .directory)) (now (a .words)) (now (a .bytes)) (sym
+          (c₆ .check-rules .ensures) ∙ c₄ .enum-told .given .1),
+      s .pre,
+    )
 
 ask-requires : tie.Need-ask-requires
-ask-requires c κs = let s = c .before .before .before .before .before .before .before .before .before .before .before .before .before .before .before .before .before .before .before .before .before .before .before .before .before .before .before .before in let a = s .args in let k = c .before .before .before .before .before .before .before .before .before .before .before .before .before .resolve-pairs .kept in ((trees-pass TreesWithFacts (a .fact-bytes) (now (a .directory)) (now (a .words)) (now (a .bytes)) (sym (c .before .before .before .before .before .before .before .before .before .before .before .before .before .before .before .before .before .before .before .before .check-rules .ensures) ∙ c .before .before .before .before .before .before .before .before .before .before .before .before .before .before .before .before .before .before .enum-told .given .1), not-true _ (sym (c .before .before .before .before .if1 .taken) ∙ c .before .before .before .before .before .before .before .before .before .before .before .before .before .resolve-pairs .ensures)), roomy-after _ _ _ _ _ (s .pre) (le-refl _) (k .1 .1 .1 .1 .0) (k .1 .1 .1 .1 .1 .0) (k .1 .1 .1 .1 .1 .1 .0) (k .1 .1 .1 .1 .1 .1 .1 .0))
+ask-requires c κs =
+    let c₄ = c .before .before .before .before in
+    let c₁₃ = c₄ .before .before .before .before .before .before .before .before .before in
+    let c₁₈ = c₁₃ .before .before .before .before .before in let c₂₀ = c₁₈ .before .before in
+    let c₂₈ = c₂₀ .before .before .before .before .before .before .before .before in
+    let s = c₂₈ in let a = s .args in let k = c₁₃ .resolve-pairs .kept in (
+      (
+        trees-pass TreesWithFacts (a .fact-bytes) (now (a .directory)) (now
+            (a .words)) (now (a .bytes)) (sym (c₂₀ .check-rules .ensures) ∙ c₁₈ .enum-told .given .1),
+        not-true _ (sym (c₄ .if1 .taken) ∙
+            c₁₃ .resolve-pairs .ensures),
+      ),
+      roomy-after _ _ _ _ _ (s .pre) (le-refl _) (k .1 .1 .1 .1 .0) (k .1 .1 .1 .1 .1 .0) (k .1 .1 .1 .1 .1 .1 .0)
+          (k .1 .1 .1 .1 .1 .1 .1 .0),
+    )
 
 same-length : tie.Need-same-length
 same-length c = search needs
@@ -41,7 +57,14 @@ same-length-4 : tie.Need-same-length-4
 same-length-4 c = search needs
 
 returns : tie.Need-returns
-returns c = let a = c .before .before .before .before .before .before .before .before .before .before .before .before .before .before .before .before .before .before .before .before .before .before .before .before .before .before .before .before .before .before .before .before .before .before .before .before .before .args in c .before .before .before .before .before .before .before .before .ask .ensures ∙ sym (rw (resolve-passes (a .fact-bytes) (now (a .directory)) (now (a .words)) (now (a .bytes)) (sym (c .before .before .before .before .before .before .before .before .before .before .before .before .before .before .before .before .before .before .before .before .before .before .before .before .before .before .before .before .before .check-rules .ensures) ∙ c .before .before .before .before .before .before .before .before .before .before .before .before .before .before .before .before .before .before .before .before .before .before .before .before .before .before .before .enum-told .given .1) (not-true _ (sym (c .before .before .before .before .before .before .before .before .before .before .before .before .before .if1 .taken) ∙ c .before .before .before .before .before .before .before .before .before .before .before .before .before .before .before .before .before .before .before .before .before .before .resolve-pairs .ensures))))
+returns c =
+    let c₈ = c .before .before .before .before .before .before .before .before in
+    let c₁₃ = c₈ .before .before .before .before .before in
+    let c₂₂ = c₁₃ .before .before .before .before .before .before .before .before .before in
+    let c₂₇ = c₂₂ .before .before .before .before .before in let c₂₉ = c₂₇ .before .before in
+    let c₃₇ = c₂₉ .before .before .before .before .before .before .before .before in
+    let a = c₃₇ .args in c₈ .ask .ensures ∙ sym (rw (resolve-passes (a .fact-bytes) (now (a .directory)) (now (a .words)) (now (a .bytes)) (sym
+    (c₂₉ .check-rules .ensures) ∙ c₂₇ .enum-told .given .1) (not-true _ (sym (c₁₃ .if1 .taken) ∙ c₂₂ .resolve-pairs .ensures))))
 
 enum-known-r : tie.Need-enum-known-r
 enum-known-r c = search needs
@@ -59,10 +82,19 @@ same-length-8 : tie.Need-same-length-8
 same-length-8 c = search needs
 
 returns-2 : tie.Need-returns-2
-returns-2 c = let a = c .before .before .before .before .before .before .before .before .before .before .before .before .before .before .before .before .before .before .before .before .before .before .before .before .args in sym (rw (resolve-fails (a .fact-bytes) (now (a .directory)) (now (a .words)) (now (a .bytes)) (sym (c .before .before .before .before .before .before .before .before .before .before .before .before .before .before .before .before .check-rules .ensures) ∙ c .before .before .before .before .before .before .before .before .before .before .before .before .before .before .enum-told .given .1) (not-false _ (sym (c .if1 .left) ∙ c .before .before .before .before .before .before .before .before .before .resolve-pairs .ensures))))
+returns-2 c =
+    let c₉ = c .before .before .before .before .before .before .before .before .before in
+    let c₁₄ = c₉ .before .before .before .before .before in let c₁₆ = c₁₄ .before .before in
+    let c₂₄ = c₁₆ .before .before .before .before .before .before .before .before in
+    let a = c₂₄ .args in sym (rw (resolve-fails (a .fact-bytes) (now (a .directory)) (now (a .words)) (now (a .bytes)) (sym
+    (c₁₆ .check-rules .ensures) ∙ c₁₄ .enum-told .given .1) (not-false _ (sym (c .if1 .left) ∙ c₉ .resolve-pairs .ensures))))
 
 returns-3 : tie.Need-returns-3
-returns-3 c = let a = c .before .before .before .before .before .before .before .before .before .before .before .args in sym (rw (resolve-refused (a .fact-bytes) (now (a .directory)) (now (a .words)) (now (a .bytes)) _ (sym (c .before .before .before .check-rules .ensures) ∙ c .before .r .given .1)))
+returns-3 c =
+    let c₁ = c .before in let c₃ = c₁ .before .before in
+    let c₁₁ = c₃ .before .before .before .before .before .before .before .before in
+    let a = c₁₁ .args in sym (rw (resolve-refused (a .fact-bytes) (now (a .directory)) (now (a .words)) (now (a .bytes)) _ (sym
+    (c₃ .check-rules .ensures) ∙ c₁ .r .given .1)))
 
 pub resolve-in-spec : {M : Type 1} → statement M
 resolve-in-spec =

@@ -3,7 +3,7 @@
 use Rattle.rules.specs.Forms.{templateTree}
 use Rattle.resolving.specs.RulePaths.{treeFails, templateFails}
 use native.Mathlib.Nat.{le-refl}
-use mathlib.Core.Path.{_≡_, sym, _∙_, ap}
+use mathlib.Core.Path.{sym, _∙_}
 use native.Mathlib.Omega.{arith}
 use denote.Ref.{now}
 use Rattle.fragments.specs.Pairs.{Pair, pairOf}
@@ -11,16 +11,27 @@ use Rattle.resolving.proofs.FailLaws.{roomy-after, passes-both, fails-f
 use borrow.Author.Needs.{needs}
 use Rattle.resolving.proofs.rule_paths.resolve_form.Statement.{statement}
 use Rattle.resolving.proofs.rule_paths.resolve_form.Tie as tie
-use Rattle.resolving.proofs.rule_paths.resolve_form.Reads as reads
-use Rattle.resolving.proofs.rule_paths.resolve_form.Lts as lts
-use Rattle.resolving.proofs.rule_paths.resolve_side.Reads as resolve-side-reads
-use Rattle.resolving.proofs.rule_paths.resolve_template.Reads as resolve-template-reads
 
 resolve-template-requires : tie.Need-resolve-template-requires
 resolve-template-requires c κs = search needs
 
 resolve-side-requires : tie.Need-resolve-side-requires
-resolve-side-requires c κs = let s = c .before .before .before .before .before .before .before .before .before .before .before .before .before .before .before .before .before .before .before .before .before .before .before .before .before .before in let k = c .before .before .before .before .before .before .before .before .before .before .before .before .before .resolve-template .kept in ((omega arith, s .pre .0 .0, s .pre .0 .1), ((s .pre .1 .0 .0, s .pre .1 .0 .1 (c .before .before .before .before .before .before .before .before .before .before .before .before .before .before .before .before .before .before .if1 .taken)), roomy-after _ _ _ _ _ (s .pre .1 .1) (le-refl _) (k .1 .1 .1 .1 .1 .0) (k .1 .1 .1 .1 .1 .1 .0) (k .1 .1 .1 .1 .1 .1 .1 .0) (k .1 .1 .1 .1 .1 .1 .1 .1 .0)))
+resolve-side-requires c κs =
+    let c₁₃ = c .before .before .before .before .before .before .before .before .before .before .before .before .before in
+    let c₁₈ = c₁₃ .before .before .before .before .before in
+    let c₂₆ = c₁₈ .before .before .before .before .before .before .before .before in
+    let s = c₂₆ in let k = c₁₃ .resolve-template .kept in (
+      (omega arith, s .pre .0 .0, s .pre .0 .1),
+      (
+        (
+          s .pre .1 .0 .0,
+          s .pre .1 .0 .1
+              (c₁₈ .if1 .taken),
+        ),
+        roomy-after _ _ _ _ _ (s .pre .1 .1) (le-refl _) (k .1 .1 .1 .1 .1 .0) (k .1 .1 .1 .1 .1 .1 .0) (k .1 .1 .1 .1 .1 .1 .1 .0)
+            (k .1 .1 .1 .1 .1 .1 .1 .1 .0),
+      ),
+    )
 
 same-length : tie.Need-same-length
 same-length c = search needs
@@ -35,7 +46,15 @@ same-length-4 : tie.Need-same-length-4
 same-length-4 c = search needs
 
 returns : tie.Need-returns
-returns c = let a = c .before .before .before .before .before .before .before .before .before .before .before .before .before .before .before .before .before .before .before .before .before .before .before .before .before .before .before .before .before .before .before .before .before .before .before .args in let p : Pair = pairOf (now (a .row)) (now (a .words)) (now (a .bytes)) in rw (c .before .before .before .before .before .before .before .before .before .before .before .before .before .before .before .before .before .before .before .before .before .before .before .before .before .before .before .if1 .taken) (passes-both (c .before .before .before .before .before .before .before .before .resolve-side .result) (templateFails p (a .form) (templateTree p (a .form))) (treeFails p 0 (a .form)) (sym (c .before .before .before .before .before .before .before .before .before .before .before .before .before .if2 .taken) ∙ c .before .before .before .before .before .before .before .before .before .before .before .before .before .before .before .before .before .before .before .before .before .before .resolve-template .ensures) (c .before .before .before .before .before .before .before .before .resolve-side .ensures .1 .answer))
+returns c =
+    let c₈ = c .before .before .before .before .before .before .before .before in
+    let c₁₃ = c₈ .before .before .before .before .before in
+    let c₂₂ = c₁₃ .before .before .before .before .before .before .before .before .before in
+    let c₂₇ = c₂₂ .before .before .before .before .before in
+    let c₃₅ = c₂₇ .before .before .before .before .before .before .before .before in
+    let a = c₃₅ .args in let p : Pair = pairOf (now (a .row)) (now (a .words)) (now (a .bytes)) in rw (c₂₇ .if1 .taken) (passes-both
+    (c₈ .resolve-side .result) (templateFails p (a .form) (templateTree p (a .form))) (treeFails p 0 (a .form)) (sym (c₁₃ .if2 .taken) ∙
+    c₂₂ .resolve-template .ensures) (c₈ .resolve-side .ensures .1 .answer))
 
 same-length-5 : tie.Need-same-length-5
 same-length-5 c = search needs
@@ -50,7 +69,12 @@ same-length-8 : tie.Need-same-length-8
 same-length-8 c = search needs
 
 returns-2 : tie.Need-returns-2
-returns-2 c = let a = c .before .before .before .before .before .before .before .before .before .before .before .before .before .before .before .before .before .before .before .before .before .before .args in let p : Pair = pairOf (now (a .row)) (now (a .words)) (now (a .bytes)) in rw (c .before .before .before .before .before .before .before .before .before .before .before .before .before .before .if1 .taken) (fails-first (templateFails p (a .form) (templateTree p (a .form))) (treeFails p 0 (a .form)) (sym (c .if2 .left) ∙ c .before .before .before .before .before .before .before .before .before .resolve-template .ensures))
+returns-2 c =
+    let c₉ = c .before .before .before .before .before .before .before .before .before in
+    let c₁₄ = c₉ .before .before .before .before .before in
+    let c₂₂ = c₁₄ .before .before .before .before .before .before .before .before in
+    let a = c₂₂ .args in let p : Pair = pairOf (now (a .row)) (now (a .words)) (now (a .bytes)) in rw (c₁₄ .if1 .taken) (fails-first (templateFails p
+    (a .form) (templateTree p (a .form))) (treeFails p 0 (a .form)) (sym (c .if2 .left) ∙ c₉ .resolve-template .ensures))
 
 returns-3 : tie.Need-returns-3
 returns-3 c = sym (rw (c .if1 .left))

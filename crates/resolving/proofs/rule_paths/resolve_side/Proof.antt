@@ -1,24 +1,12 @@
 -- `resolving::rule_paths::resolve_side` meets its contract.
 -- Assumes nothing.
-use Rattle.resolving.proofs.NeedLaws.{tables-are}
-use mathlib.Core.Path.{_≡_, sym, _∙_}
+use Rattle.resolving.proofs.NeedLaws.{tables-are, tree-formed, tree-facts, room-for, room-for-facts}
 use denote.Ref.{now}
-use mathlib.Core.List.{[]}
-use Rattle.fragments.specs.Pairs.{Pair, pairOf, listOf, textOf, treeOf, factsOf}
-use Rattle.resolving.specs.RulePaths.{varsOf}
-use Rattle.parsing.specs.Reading.{reading}
+use Rattle.fragments.specs.Pairs.{Pair, pairOf, treeOf, factsOf}
 use Rattle.paths.proofs.TableLaws.{has-few}
-use Rattle.resolving.proofs.NeedLaws.{tree-formed, tree-facts, room-for, room-for-facts, known-pattern}
 use borrow.Author.Needs.{needs}
 use Rattle.resolving.proofs.rule_paths.resolve_side.Statement.{statement}
 use Rattle.resolving.proofs.rule_paths.resolve_side.Tie as tie
-use Rattle.resolving.proofs.rule_paths.resolve_side.Reads as reads
-use Rattle.resolving.proofs.rule_paths.resolve_side.Lts as lts
-use Rattle.fragments.proofs.pairs.code.Reads as code-reads
-use Rattle.fragments.proofs.pairs.facts.Reads as facts-reads
-use Rattle.fragments.proofs.pairs.text.Reads as text-reads
-use Rattle.fragments.proofs.pairs.tree.Reads as tree-reads
-use Rattle.paths.proofs.resolving.resolve_pattern_tree.Reads as resolve-pattern-tree-reads
 
 code-requires : tie.Need-code-requires
 code-requires c κs = search needs
@@ -33,7 +21,23 @@ facts-requires : tie.Need-facts-requires
 facts-requires c κs = search needs
 
 resolve-pattern-tree-requires : tie.Need-resolve-pattern-tree-requires
-resolve-pattern-tree-requires c κs = let s = c .before .before .before .before .before .before .before .before .before .before .before .before .before .before .before in let a = s .args in let p : Pair = pairOf (now (a .row)) (now (a .words)) (now (a .bytes)) in let wf = tree-formed p (a .side) (a .form) (s .pre .0 .0) (s .pre .0 .1) (s .pre .1 .0 .0) (s .pre .1 .0 .1) in let hf = tree-facts p (a .side) (a .form) (s .pre .0 .0) (s .pre .0 .1) (s .pre .1 .0 .0) (s .pre .1 .0 .1) in let m = s .pre .1 .1 in let few = has-few (treeOf (a .side) (a .form) p) (factsOf (a .side) (a .form) p) wf hf in rw (c .before .before .before .before .before .tree .ensures, c .before .before .before .before .facts .ensures) ((s .pre .0 .2 .eight, wf, hf), (room-for-facts (now (a .words)) (now (a .index)) _ _ (m .for-index) few, room-for-facts (now (a .words)) (now (a .spare)) _ _ (m .for-spare) few, room-for (now (a .words)) (now (a .paths)) _ _ (m .for-paths) (wf .few), room-for (now (a .words)) (now (a .calls)) _ _ (m .for-calls) (wf .few)))
+resolve-pattern-tree-requires c κs =
+    let c₄ = c .before .before .before .before in let c₅ = c₄ .before in
+    let c₁₅ = c₅ .before .before .before .before .before .before .before .before .before .before in
+    let s = c₁₅ in let a = s .args in let p : Pair = pairOf (now (a .row)) (now (a .words)) (now (a .bytes)) in let wf = tree-formed p (a .side)
+    (a .form) (s .pre .0 .0) (s .pre .0 .1) (s .pre .1 .0 .0) (s .pre .1 .0 .1) in let hf = tree-facts p (a .side) (a .form) (s .pre .0 .0)
+    (s .pre .0 .1) (s .pre .1 .0 .0) (s .pre .1 .0 .1) in let m = s .pre .1 .1 in let few = has-few (treeOf (a .side) (a .form) p) (factsOf (a .side)
+    (a .form) p) wf hf in rw (c₅ .tree .ensures, c₄ .facts .ensures) (
+      (s .pre .0 .2 .eight, wf, hf),
+      (
+        room-for-facts (now (a .words)) (now
+            (a .index)) _ _ (m .for-index) few,
+        room-for-facts (now (a .words)) (now (a .spare)) _ _ (m .for-spare) few,
+        room-for (now (a .words)) (now
+            (a .paths)) _ _ (m .for-paths) (wf .few),
+        room-for (now (a .words)) (now (a .calls)) _ _ (m .for-calls) (wf .few),
+      ),
+    )
 
 same-length : tie.Need-same-length
 same-length c = search needs
@@ -48,7 +52,16 @@ same-length-4 : tie.Need-same-length-4
 same-length-4 c = search needs
 
 returns : tie.Need-returns
-returns c = let s = c .before .before .before .before .before .before .before .before .before .before .before .before .before .before .before .before .before .before .before .before .before .before .before .before in let a = s .args in let p : Pair = pairOf (now (a .row)) (now (a .words)) (now (a .bytes)) in let r = c .before .before .before .before .before .before .before .before .resolve-pattern-tree in (rw (← c .before .before .before .before .before .before .before .before .before .before .before .before .before .facts .ensures) (r .ensures .0), tables-are p (a .side) (a .form) (r .result) _ _ (now (c .before .before .before .before .before .before .before .before .before .before .before .before .before .before .tree .result)) (now (c .before .before .before .before .before .before .before .before .before .before .before .before .before .facts .result)) (now (c .before .before .before .before .before .before .before .before .before .before .before .before .before .before .before .text .result)) (now (c .before .before .before .before .before .before .before .before .before .before .before .before .before .before .before .before .code .result)) (a .pattern) (c .before .before .before .before .before .before .before .before .before .before .before .before .before .before .tree .ensures) (c .before .before .before .before .before .before .before .before .before .before .before .before .before .facts .ensures) (c .before .before .before .before .before .before .before .before .before .before .before .before .before .before .before .text .ensures) (c .before .before .before .before .before .before .before .before .before .before .before .before .before .before .before .before .code .ensures) (s .pre .0 .2 .is) (r .ensures .1))
+returns c =
+    let c₈ = c .before .before .before .before .before .before .before .before in
+    let c₁₃ = c₈ .before .before .before .before .before in let c₁₄ = c₁₃ .before in let c₁₅ = c₁₄ .before in
+    let c₁₆ = c₁₅ .before in let c₂₄ = c₁₆ .before .before .before .before .before .before .before .before in
+    let s = c₂₄ in let a = s .args in let p : Pair = pairOf (now (a .row)) (now (a .words)) (now (a .bytes)) in let r = c₈ .resolve-pattern-tree in (
+      rw (← c₁₃ .facts .ensures) (r .ensures .0),
+      tables-are p (a .side) (a .form) (r .result) _ _ (now (c₁₄ .tree .result)) (now
+          (c₁₃ .facts .result)) (now (c₁₅ .text .result)) (now (c₁₆ .code .result)) (a .pattern) (c₁₄ .tree .ensures) (c₁₃ .facts .ensures)
+          (c₁₅ .text .ensures) (c₁₆ .code .ensures) (s .pre .0 .2 .is) (r .ensures .1),
+    )
 
 pub resolve-side-spec : {M : Type 1} → statement M
 resolve-side-spec =

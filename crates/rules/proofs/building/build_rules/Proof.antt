@@ -7,11 +7,6 @@ use Rattle.rules.specs.Building.{buildOutcome}
 use borrow.Author.Needs.{needs}
 use Rattle.rules.proofs.building.build_rules.Statement.{statement}
 use Rattle.rules.proofs.building.build_rules.Tie as tie
-use Rattle.rules.proofs.building.build_rules.Reads as reads
-use Rattle.rules.proofs.building.build_rules.Lts as lts
-use Rattle.rules.proofs.numbering.count_rules.Reads as count-rules-reads
-use Rattle.rules.proofs.numbering.rule_at.Reads as rule-at-reads
-use Rattle.rules.proofs.stages.check_rules.Reads as check-rules-reads
 
 check-rules-requires : tie.Need-check-rules-requires
 check-rules-requires c κs = search needs
@@ -29,10 +24,16 @@ enum-known-r : tie.Need-enum-known-r
 enum-known-r c = search needs
 
 returns : tie.Need-returns
-returns c = let a = c .before .before .before .before .before .before .before .before .args in let e : buildOutcome (now (a .directory)) (now (a .words)) (now (a .bytes)) ≡ Accepted = sym (c .before .before .before .before .check-rules .ensures) ∙ c .before .before .enum-told .given .1 in sym (rw (e, ← c .before .count-rules .ensures, ← c .rule-at .ensures))
+returns c =
+    let c₁ = c .before in let c₂ = c₁ .before in let c₄ = c₂ .before .before in let c₈ = c₄ .before .before .before .before in
+    let a = c₈ .args in let e : buildOutcome (now (a .directory)) (now (a .words)) (now (a .bytes)) ≡ Accepted = sym (c₄ .check-rules .ensures) ∙
+    c₂ .enum-told .given .1 in sym (rw (e, ← c₁ .count-rules .ensures, ← c .rule-at .ensures))
 
 returns-2 : tie.Need-returns-2
-returns-2 c = let a = c .before .before .before .before .before .before .before .args in let e : buildOutcome (now (a .directory)) (now (a .words)) (now (a .bytes)) ≡ Refused (c .before .r .given .0 .0) = sym (c .before .before .before .check-rules .ensures) ∙ c .before .r .given .1 in sym (rw e)
+returns-2 c =
+    let c₁ = c .before in let c₃ = c₁ .before .before in let c₇ = c₃ .before .before .before .before in
+    let a = c₇ .args in let e : buildOutcome (now (a .directory)) (now (a .words)) (now (a .bytes)) ≡ Refused (c₁ .r .given .0 .0) = sym
+    (c₃ .check-rules .ensures) ∙ c₁ .r .given .1 in sym (rw e)
 
 pub build-rules-spec : {M : Type 1} → statement M
 build-rules-spec =

@@ -8,8 +8,6 @@ use lib.ListN.{drop}
 use Rattle.rules.specs.Forms.{any}
 use Rattle.rules.proofs.forms.any.Statement.{statement}
 use Rattle.rules.proofs.forms.any.Tie as tie
-use Rattle.rules.proofs.forms.any.Reads as reads
-use Rattle.rules.proofs.forms.any.Lts as lts
 
 abbrev Inv-loop : tie.InvT-loop
 Inv-loop forms i₀ i = (any forms ≡ any (drop i forms)) × (i ≤ 5)
@@ -24,7 +22,9 @@ array-read-if1 : tie.Need-array-read-if1 Inv-loop μ-loop
 array-read-if1 c = c .loop-test .taken
 
 returns : tie.Need-returns Inv-loop μ-loop
-returns c = sym (c .before .before .loop .inv .0 ∙ any-next (c .before .before .before .args .t1) (c .before .before .loop .i) (omega (arith, c .before .loop-test .taken, c .before .before .before .pre)) ∙ rw (c .if1 .taken))
+returns c =
+    let c₁ = c .before in let c₂ = c₁ .before in let c₃ = c₂ .before in
+    sym (c₂ .loop .inv .0 ∙ any-next (c₃ .args .t1) (c₂ .loop .i) (omega (arith, c₁ .loop-test .taken, c₃ .pre)) ∙ rw (c .if1 .taken))
 
 add-i : tie.Need-add-i Inv-loop μ-loop
 add-i c = omega arith
@@ -33,10 +33,14 @@ loop-less : tie.Need-loop-less Inv-loop μ-loop
 loop-less c = omega arith
 
 loop-again : tie.Need-loop-again Inv-loop μ-loop
-loop-again c = (c .before .before .loop .inv .0 ∙ any-next (c .before .before .before .args .t1) (c .before .before .loop .i) (omega (arith, c .before .loop-test .taken, c .before .before .before .pre)) ∙ rw (c .if1 .left), omega arith)
+loop-again c =
+    let c₁ = c .before in let c₂ = c₁ .before in let c₃ = c₂ .before in
+    (c₂ .loop .inv .0 ∙ any-next (c₃ .args .t1) (c₂ .loop .i) (omega (arith, c₁ .loop-test .taken, c₃ .pre)) ∙ rw (c .if1 .left), omega arith)
 
 returns-2 : tie.Need-returns-2 Inv-loop μ-loop
-returns-2 c = sym (c .before .loop .inv .0 ∙ any-end (c .before .before .args .t1) (c .before .loop .i) (omega (arith, c .loop-test .left, c .before .before .pre)))
+returns-2 c =
+    let c₁ = c .before in let c₂ = c₁ .before in
+    sym (c₁ .loop .inv .0 ∙ any-end (c₂ .args .t1) (c₁ .loop .i) (omega (arith, c .loop-test .left, c₂ .pre)))
 
 pub any-spec : {M : Type 1} → statement M
 any-spec =

@@ -1,14 +1,9 @@
 -- `rules::forms::is_path_rule` meets its contract.
 -- Assumes nothing.
-use mathlib.Core.Path.{sym, _∙_}
+use mathlib.Core.Path.{sym}
 use borrow.Author.Needs.{needs}
 use Rattle.rules.proofs.forms.is_path_rule.Statement.{statement}
 use Rattle.rules.proofs.forms.is_path_rule.Tie as tie
-use Rattle.rules.proofs.forms.is_path_rule.Reads as reads
-use Rattle.rules.proofs.forms.is_path_rule.Lts as lts
-use Rattle.fragments.proofs.pairs.tree.Reads as tree-reads
-use Rattle.rules.proofs.forms.is_rule.Reads as is-rule-reads
-use Rattle.syntax.proofs.accessors.contains.Reads as contains-reads
 
 is-rule-requires : tie.Need-is-rule-requires
 is-rule-requires c κs = search needs
@@ -20,7 +15,9 @@ contains-requires : tie.Need-contains-requires
 contains-requires c κs = search needs
 
 returns : tie.Need-returns
-returns c = sym (rw (← c .before .before .before .is-rule .ensures, c .before .before .if1 .taken, ← c .before .tree .ensures) (sym (c .contains .ensures 0)))
+returns c =
+    let c₁ = c .before in let c₂ = c₁ .before in let c₃ = c₂ .before in
+    sym (rw (← c₃ .is-rule .ensures, c₂ .if1 .taken, ← c₁ .tree .ensures) (sym (c .contains .ensures 0)))
 
 returns-2 : tie.Need-returns-2
 returns-2 c = sym (rw (← c .before .is-rule .ensures, c .if1 .left))

@@ -3,9 +3,6 @@
 use borrow.Author.Needs.{needs}
 use Rattle.rules.proofs.forms.is_present.Statement.{statement}
 use Rattle.rules.proofs.forms.is_present.Tie as tie
-use Rattle.rules.proofs.forms.is_present.Reads as reads
-use Rattle.rules.proofs.forms.is_present.Lts as lts
-use Rattle.fragments.proofs.pairs.tree.Reads as tree-reads
 
 tree-requires : tie.Need-tree-requires
 tree-requires c κs = search needs

@@ -9,11 +9,6 @@ use Rattle.rules.proofs.FormLaws.{left-paths, left-rules}
 use borrow.Author.Needs.{needs}
 use Rattle.rules.proofs.forms.left_forms.Statement.{statement}
 use Rattle.rules.proofs.forms.left_forms.Tie as tie
-use Rattle.rules.proofs.forms.left_forms.Reads as reads
-use Rattle.rules.proofs.forms.left_forms.Lts as lts
-use Rattle.rules.proofs.forms.any.Reads as any-reads
-use Rattle.rules.proofs.forms.path_forms.Reads as path-forms-reads
-use Rattle.rules.proofs.forms.rule_forms.Reads as rule-forms-reads
 
 path-forms-requires : tie.Need-path-forms-requires
 path-forms-requires c κs = search needs
@@ -22,13 +17,19 @@ any-requires : tie.Need-any-requires
 any-requires c κs = search needs
 
 returns : tie.Need-returns
-returns c = let a = c .before .before .before .before .before .args in let p = inWords (now (a .row)) (now (a .words)) in let e : hasPathRule p ≡ true = sym (ap any (c .before .before .path-forms .ensures)) ∙ sym (c .before .any .ensures) ∙ c .if1 .taken in c .before .before .path-forms .ensures ∙ sym (left-paths p e)
+returns c =
+    let c₁ = c .before in let c₂ = c₁ .before in let c₅ = c₂ .before .before .before in
+    let a = c₅ .args in let p = inWords (now (a .row)) (now (a .words)) in let e : hasPathRule p ≡ true = sym (ap any (c₂ .path-forms .ensures)) ∙
+    sym (c₁ .any .ensures) ∙ c .if1 .taken in c₂ .path-forms .ensures ∙ sym (left-paths p e)
 
 rule-forms-requires : tie.Need-rule-forms-requires
 rule-forms-requires c κs = search needs
 
 returns-2 : tie.Need-returns-2
-returns-2 c = let a = c .before .before .before .before .before .before .args in let p = inWords (now (a .row)) (now (a .words)) in let e : hasPathRule p ≡ false = sym (ap any (c .before .before .before .path-forms .ensures)) ∙ sym (c .before .before .any .ensures) ∙ c .before .if1 .left in c .rule-forms .ensures ∙ sym (left-rules p e)
+returns-2 c =
+    let c₁ = c .before in let c₂ = c₁ .before in let c₃ = c₂ .before in let c₆ = c₃ .before .before .before in
+    let a = c₆ .args in let p = inWords (now (a .row)) (now (a .words)) in let e : hasPathRule p ≡ false = sym (ap any (c₃ .path-forms .ensures)) ∙
+    sym (c₂ .any .ensures) ∙ c₁ .if1 .left in c .rule-forms .ensures ∙ sym (left-rules p e)
 
 pub left-forms-spec : {M : Type 1} → statement M
 left-forms-spec =

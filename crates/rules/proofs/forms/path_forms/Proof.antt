@@ -3,9 +3,6 @@
 use borrow.Author.Needs.{needs}
 use Rattle.rules.proofs.forms.path_forms.Statement.{statement}
 use Rattle.rules.proofs.forms.path_forms.Tie as tie
-use Rattle.rules.proofs.forms.path_forms.Reads as reads
-use Rattle.rules.proofs.forms.path_forms.Lts as lts
-use Rattle.rules.proofs.forms.is_path_rule.Reads as is-path-rule-reads
 
 is-path-rule-requires : tie.Need-is-path-rule-requires
 is-path-rule-requires c κs = search needs
@@ -23,7 +20,9 @@ is-path-rule-requires-5 : tie.Need-is-path-rule-requires-5
 is-path-rule-requires-5 c κs = search needs
 
 returns : tie.Need-returns
-returns c = rw (c .is-path-rule5 .ensures, c .before .is-path-rule4 .ensures, c .before .before .is-path-rule3 .ensures, c .before .before .before .is-path-rule2 .ensures, c .before .before .before .before .is-path-rule .ensures)
+returns c =
+    let c₁ = c .before in let c₂ = c₁ .before in let c₃ = c₂ .before in let c₄ = c₃ .before in
+    rw (c .is-path-rule5 .ensures, c₁ .is-path-rule4 .ensures, c₂ .is-path-rule3 .ensures, c₃ .is-path-rule2 .ensures, c₄ .is-path-rule .ensures)
 
 pub path-forms-spec : {M : Type 1} → statement M
 path-forms-spec =

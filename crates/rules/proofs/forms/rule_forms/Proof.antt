@@ -3,9 +3,6 @@
 use borrow.Author.Needs.{needs}
 use Rattle.rules.proofs.forms.rule_forms.Statement.{statement}
 use Rattle.rules.proofs.forms.rule_forms.Tie as tie
-use Rattle.rules.proofs.forms.rule_forms.Reads as reads
-use Rattle.rules.proofs.forms.rule_forms.Lts as lts
-use Rattle.rules.proofs.forms.is_rule.Reads as is-rule-reads
 
 is-rule-requires : tie.Need-is-rule-requires
 is-rule-requires c κs = search needs
@@ -23,7 +20,9 @@ is-rule-requires-5 : tie.Need-is-rule-requires-5
 is-rule-requires-5 c κs = search needs
 
 returns : tie.Need-returns
-returns c = rw (c .is-rule5 .ensures, c .before .is-rule4 .ensures, c .before .before .is-rule3 .ensures, c .before .before .before .is-rule2 .ensures, c .before .before .before .before .is-rule .ensures)
+returns c =
+    let c₁ = c .before in let c₂ = c₁ .before in let c₃ = c₂ .before in let c₄ = c₃ .before in
+    rw (c .is-rule5 .ensures, c₁ .is-rule4 .ensures, c₂ .is-rule3 .ensures, c₃ .is-rule2 .ensures, c₄ .is-rule .ensures)
 
 pub rule-forms-spec : {M : Type 1} → statement M
 rule-forms-spec =

@@ -4,13 +4,6 @@ use mathlib.Core.Path.{_∙_}
 use borrow.Author.Needs.{needs}
 use Rattle.rules.proofs.stages.check_form.Statement.{statement}
 use Rattle.rules.proofs.stages.check_form.Tie as tie
-use Rattle.rules.proofs.stages.check_form.Reads as reads
-use Rattle.rules.proofs.stages.check_form.Lts as lts
-use Rattle.fragments.proofs.pairs.facts.Reads as facts-reads
-use Rattle.fragments.proofs.pairs.tree.Reads as tree-reads
-use Rattle.rules.proofs.stages.looked_at.Reads as looked-at-reads
-use Rattle.rules.proofs.stages.owner_of.Reads as owner-of-reads
-use Rattle.trees.proofs.check_rule_tree.Reads as check-rule-tree-reads
 
 facts-requires : tie.Need-facts-requires
 facts-requires c κs = search needs
@@ -28,7 +21,9 @@ check-rule-tree-requires : tie.Need-check-rule-tree-requires
 check-rule-tree-requires c κs = search needs
 
 returns : tie.Need-returns
-returns c = c .check-rule-tree .ensures ∙ rw (c .before .tree .ensures, c .before .before .owner-of .ensures, c .before .before .before .looked-at .ensures, c .before .before .before .before .facts .ensures)
+returns c =
+    let c₁ = c .before in let c₂ = c₁ .before in let c₃ = c₂ .before in let c₄ = c₃ .before in
+    c .check-rule-tree .ensures ∙ rw (c₁ .tree .ensures, c₂ .owner-of .ensures, c₃ .looked-at .ensures, c₄ .facts .ensures)
 
 pub check-form-spec : {M : Type 1} → statement M
 check-form-spec =

@@ -5,10 +5,6 @@ use mathlib.Core.Path.{_∙_}
 use borrow.Author.Needs.{needs}
 use Rattle.rules.proofs.stages.check_forms.Statement.{statement}
 use Rattle.rules.proofs.stages.check_forms.Tie as tie
-use Rattle.rules.proofs.stages.check_forms.Reads as reads
-use Rattle.rules.proofs.stages.check_forms.Lts as lts
-use Rattle.errors.proofs.lowest.Reads as lowest-reads
-use Rattle.rules.proofs.stages.check_form.Reads as check-form-reads
 
 check-form-requires : tie.Need-check-form-requires
 check-form-requires c κs = search needs
@@ -38,7 +34,19 @@ lowest-requires-4 : tie.Need-lowest-requires-4
 lowest-requires-4 c κs = search needs
 
 returns : tie.Need-returns
-returns c = c .lowest4 .ensures ∙ rw (c .before .lowest3 .ensures, c .before .before .lowest2 .ensures, c .before .before .before .lowest .ensures, c .before .before .before .before .check-form5 .ensures, c .before .before .before .before .before .check-form4 .ensures, c .before .before .before .before .before .before .check-form3 .ensures, c .before .before .before .before .before .before .before .check-form2 .ensures, c .before .before .before .before .before .before .before .before .check-form .ensures) (lowest-five _ _ _ _ _)
+returns c =
+    let c₁ = c .before in let c₂ = c₁ .before in let c₃ = c₂ .before in let c₄ = c₃ .before in let c₅ = c₄ .before in
+    let c₆ = c₅ .before in let c₇ = c₆ .before in let c₈ = c₇ .before in
+    c .lowest4 .ensures ∙ rw (
+      c₁ .lowest3 .ensures,
+      c₂ .lowest2 .ensures,
+      c₃ .lowest .ensures,
+      c₄ .check-form5 .ensures,
+      c₅ .check-form4 .ensures,
+      c₆ .check-form3 .ensures,
+      c₇ .check-form2 .ensures,
+      c₈ .check-form .ensures,
+    ) (lowest-five _ _ _ _ _)
 
 pub check-forms-spec : {M : Type 1} → statement M
 check-forms-spec =

@@ -4,12 +4,6 @@ use mathlib.Core.Path.{_∙_}
 use borrow.Author.Needs.{needs}
 use Rattle.rules.proofs.stages.check_lists.Statement.{statement}
 use Rattle.rules.proofs.stages.check_lists.Tie as tie
-use Rattle.rules.proofs.stages.check_lists.Reads as reads
-use Rattle.rules.proofs.stages.check_lists.Lts as lts
-use Rattle.fragments.proofs.pairs.is_given.Reads as is-given-reads
-use Rattle.fragments.proofs.pairs.list.Reads as list-reads
-use Rattle.fragments.proofs.pairs.text.Reads as text-reads
-use Rattle.validating.proofs.validate_rule.Reads as validate-rule-reads
 
 list-requires : tie.Need-list-requires
 list-requires c κs = search needs
@@ -30,7 +24,9 @@ validate-rule-requires : tie.Need-validate-rule-requires
 validate-rule-requires c κs = search needs
 
 returns : tie.Need-returns
-returns c = c .validate-rule .ensures ∙ rw (c .before .text2 .ensures, c .before .before .list2 .ensures, c .before .before .before .is-given .ensures, c .before .before .before .before .text .ensures, c .before .before .before .before .before .list .ensures)
+returns c =
+    let c₁ = c .before in let c₂ = c₁ .before in let c₃ = c₂ .before in let c₄ = c₃ .before in let c₅ = c₄ .before in
+    c .validate-rule .ensures ∙ rw (c₁ .text2 .ensures, c₂ .list2 .ensures, c₃ .is-given .ensures, c₄ .text .ensures, c₅ .list .ensures)
 
 pub check-lists-spec : {M : Type 1} → statement M
 check-lists-spec =

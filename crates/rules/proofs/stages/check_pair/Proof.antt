@@ -1,14 +1,9 @@
 -- `rules::stages::check_pair` meets its contract.
 -- Assumes nothing.
-use mathlib.Core.Path.{_≡_, _∙_, sym}
+use mathlib.Core.Path.{_∙_, sym}
 use borrow.Author.Needs.{needs}
 use Rattle.rules.proofs.stages.check_pair.Statement.{statement}
 use Rattle.rules.proofs.stages.check_pair.Tie as tie
-use Rattle.rules.proofs.stages.check_pair.Reads as reads
-use Rattle.rules.proofs.stages.check_pair.Lts as lts
-use Rattle.rules.proofs.stages.check_forms_left.Reads as check-forms-left-reads
-use Rattle.rules.proofs.stages.check_lists.Reads as check-lists-reads
-use Rattle.rules.proofs.stages.check_trees.Reads as check-trees-reads
 
 enum-told : tie.Need-enum-told
 enum-told c = search needs

@@ -1,15 +1,11 @@
 -- `rules::stages::check_rules` meets its contract.
 -- Assumes nothing.
-use mathlib.Core.Path.{_≡_, _∙_, sym}
+use mathlib.Core.Path.{_∙_, sym}
 use denote.Ref.{now}
 use Rattle.rules.proofs.StageLaws.{no-directory, lists-refuse, trees-refuse, forms-decide}
 use borrow.Author.Needs.{needs}
 use Rattle.rules.proofs.stages.check_rules.Statement.{statement}
 use Rattle.rules.proofs.stages.check_rules.Tie as tie
-use Rattle.rules.proofs.stages.check_rules.Reads as reads
-use Rattle.rules.proofs.stages.check_rules.Lts as lts
-use Rattle.fragments.proofs.directory.is_directory.Reads as is-directory-reads
-use Rattle.rules.proofs.stages.check_stage.Reads as check-stage-reads
 
 is-directory-requires : tie.Need-is-directory-requires
 is-directory-requires c κs = search needs
@@ -36,16 +32,33 @@ enum-known-r-2 : tie.Need-enum-known-r-2
 enum-known-r-2 c = search needs
 
 returns : tie.Need-returns
-returns c = let a = c .before .before .before .before .before .before .before .before .before .before .before .before .args in c .check-stage3 .ensures ∙ sym (forms-decide (a .trees) (a .fact-bytes) (now (a .directory)) (now (a .words)) (now (a .bytes)) (sym (c .before .before .before .before .before .before .before .before .is-directory .ensures) ∙ c .before .before .before .before .before .before .before .if1 .taken) (sym (c .before .before .before .before .before .before .check-stage .ensures) ∙ c .before .before .before .before .enum-told .given .1) (sym (c .before .before .before .check-stage2 .ensures) ∙ c .before .enum-told2 .given .1))
+returns c =
+    let c₁ = c .before in let c₃ = c₁ .before .before in let c₄ = c₃ .before in let c₆ = c₄ .before .before in
+    let c₇ = c₆ .before in let c₈ = c₇ .before in let c₁₂ = c₈ .before .before .before .before in
+    let a = c₁₂ .args in c .check-stage3 .ensures ∙ sym (forms-decide (a .trees) (a .fact-bytes) (now (a .directory)) (now (a .words)) (now
+    (a .bytes)) (sym (c₈ .is-directory .ensures) ∙ c₇ .if1 .taken) (sym (c₆ .check-stage .ensures) ∙ c₄ .enum-told .given .1) (sym
+    (c₃ .check-stage2 .ensures) ∙ c₁ .enum-told2 .given .1))
 
 returns-2 : tie.Need-returns-2
-returns-2 c = let a = c .before .before .before .before .before .before .before .before .before .before .before .before .args in sym (trees-refuse (a .trees) (a .fact-bytes) (now (a .directory)) (now (a .words)) (now (a .bytes)) _ (sym (c .before .before .before .before .before .before .before .before .is-directory .ensures) ∙ c .before .before .before .before .before .before .before .if1 .taken) (sym (c .before .before .before .before .before .before .check-stage .ensures) ∙ c .before .before .before .before .enum-told .given .1) (sym (c .before .before .before .check-stage2 .ensures) ∙ c .before .r .given .1))
+returns-2 c =
+    let c₁ = c .before in let c₃ = c₁ .before .before in let c₄ = c₃ .before in let c₆ = c₄ .before .before in
+    let c₇ = c₆ .before in let c₈ = c₇ .before in let c₁₂ = c₈ .before .before .before .before in
+    let a = c₁₂ .args in sym (trees-refuse (a .trees) (a .fact-bytes) (now (a .directory)) (now (a .words)) (now (a .bytes)) _ (sym
+    (c₈ .is-directory .ensures) ∙ c₇ .if1 .taken) (sym (c₆ .check-stage .ensures) ∙ c₄ .enum-told .given .1) (sym (c₃ .check-stage2 .ensures) ∙
+    c₁ .r .given .1))
 
 returns-3 : tie.Need-returns-3
-returns-3 c = let a = c .before .before .before .before .before .before .before .before .before .args in sym (lists-refuse (a .trees) (a .fact-bytes) (now (a .directory)) (now (a .words)) (now (a .bytes)) _ (sym (c .before .before .before .before .before .is-directory .ensures) ∙ c .before .before .before .before .if1 .taken) (sym (c .before .before .before .check-stage .ensures) ∙ c .before .r2 .given .1))
+returns-3 c =
+    let c₁ = c .before in let c₃ = c₁ .before .before in let c₄ = c₃ .before in let c₅ = c₄ .before in
+    let c₉ = c₅ .before .before .before .before in
+    let a = c₉ .args in sym (lists-refuse (a .trees) (a .fact-bytes) (now (a .directory)) (now (a .words)) (now (a .bytes)) _ (sym
+    (c₅ .is-directory .ensures) ∙ c₄ .if1 .taken) (sym (c₃ .check-stage .ensures) ∙ c₁ .r2 .given .1))
 
 returns-4 : tie.Need-returns-4
-returns-4 c = let a = c .before .before .before .before .before .args in sym (no-directory (a .trees) (a .fact-bytes) (now (a .directory)) (now (a .words)) (now (a .bytes)) (sym (c .before .is-directory .ensures) ∙ c .if1 .left))
+returns-4 c =
+    let c₁ = c .before in let c₅ = c₁ .before .before .before .before in
+    let a = c₅ .args in sym (no-directory (a .trees) (a .fact-bytes) (now (a .directory)) (now (a .words)) (now (a .bytes)) (sym
+    (c₁ .is-directory .ensures) ∙ c .if1 .left))
 
 pub check-rules-spec : {M : Type 1} → statement M
 check-rules-spec =

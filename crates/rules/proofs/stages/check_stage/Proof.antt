@@ -6,19 +6,11 @@ use native.Mathlib.Omega.{arith}
 use denote.Ref.{now}
 use Rattle.errors.specs.Refusals.{lowestOf}
 use Rattle.errors.proofs.Laws.{lowest-accepted}
-use Rattle.fragments.specs.Directory.{rowCount}
 use Rattle.fragments.specs.Pairs.{pairsOf, pairs}
 use Rattle.rules.specs.Stages.{stageOutcome}
 use Rattle.rules.proofs.StageLaws.{stage-end, stage-next}
 use Rattle.rules.proofs.stages.check_stage.Statement.{statement}
 use Rattle.rules.proofs.stages.check_stage.Tie as tie
-use Rattle.rules.proofs.stages.check_stage.Reads as reads
-use Rattle.rules.proofs.stages.check_stage.Lts as lts
-use Rattle.errors.proofs.lowest.Reads as lowest-reads
-use Rattle.fragments.proofs.pairs.next_bytes.Reads as next-bytes-reads
-use Rattle.fragments.proofs.pairs.next_row.Reads as next-row-reads
-use Rattle.fragments.proofs.pairs.next_words.Reads as next-words-reads
-use Rattle.rules.proofs.stages.check_pair.Reads as check-pair-reads
 
 abbrev Inv-loop : tie.InvT-loop
 Inv-loop stage directory words bytes fact-bytes lowest₀ row₀ w₀ b₀ n₀ lowest row w b n = stageOutcome stage fact-bytes (pairs directory words bytes) ≡ lowestOf lowest (stageOutcome stage fact-bytes (pairsOf n row w b))
@@ -45,16 +37,36 @@ next-row-requires : tie.Need-next-row-requires Inv-loop μ-loop
 next-row-requires c κs = tt
 
 sub-n : tie.Need-sub-n Inv-loop μ-loop
-sub-n c = omega (arith, c .before .before .before .before .before .loop-test .taken)
+sub-n c =
+    let c₅ = c .before .before .before .before .before in
+    omega (arith, c₅ .loop-test .taken)
 
 loop-less : tie.Need-loop-less Inv-loop μ-loop
-loop-less c = omega (arith, c .before .before .before .before .before .loop-test .taken)
+loop-less c =
+    let c₅ = c .before .before .before .before .before in
+    omega (arith, c₅ .loop-test .taken)
 
 loop-again : tie.Need-loop-again Inv-loop μ-loop
-loop-again c = let l = c .before .before .before .before .before .before .loop in let a = c .before .before .before .before .before .before .before .before .before .before .args in l .inv ∙ stage-next (a .stage) (a .fact-bytes) (l .n) (now (l .row)) (now (l .w)) (now (l .b)) (l .lowest) (c .before .before .before .before .before .loop-test .taken) ∙ rw (← c .before .before .before .before .check-pair .ensures, ← c .before .before .before .lowest .ensures, ← c .before .before .next-words .ensures, ← c .before .next-bytes .ensures, ← c .next-row .ensures)
+loop-again c =
+    let c₁ = c .before in let c₂ = c₁ .before in let c₃ = c₂ .before in let c₄ = c₃ .before in let c₅ = c₄ .before in
+    let c₆ = c₅ .before in let c₁₀ = c₆ .before .before .before .before in
+    let l = c₆ .loop in let a = c₁₀ .args in l .inv ∙ stage-next (a .stage) (a .fact-bytes) (l .n) (now (l .row)) (now (l .w)) (now (l .b))
+    (l .lowest) (c₅ .loop-test .taken) ∙ rw (
+      ← c₄ .check-pair .ensures,
+      ← c₃ .lowest .ensures,
+      ← c₂ .next-words .ensures,
+      ← c₁ .next-bytes .ensures,
+      ← c .next-row .ensures,
+    )
 
 returns : tie.Need-returns Inv-loop μ-loop
-returns c = let l = c .before .loop in let a = c .before .before .before .before .before .args in let e : l .n ≡ 0 = omega (arith, c .loop-test .left) in sym (l .inv ∙ rw (e, stage-end (a .stage) (a .fact-bytes) (now (l .row)) (now (l .w)) (now (l .b))) (lowest-accepted (l .lowest)))
+returns c =
+    let c₁ = c .before in let c₅ = c₁ .before .before .before .before in
+    let l = c₁ .loop in let a = c₅ .args in let e : l .n ≡ 0 = omega (arith, c .loop-test .left) in sym (l .inv ∙ rw (
+      e,
+      stage-end (a .stage)
+          (a .fact-bytes) (now (l .row)) (now (l .w)) (now (l .b)),
+    ) (lowest-accepted (l .lowest)))
 
 pub check-stage-spec : {M : Type 1} → statement M
 check-stage-spec =

@@ -4,10 +4,6 @@ use mathlib.Core.Path.{_∙_}
 use borrow.Author.Needs.{needs}
 use Rattle.rules.proofs.stages.check_trees.Statement.{statement}
 use Rattle.rules.proofs.stages.check_trees.Tie as tie
-use Rattle.rules.proofs.stages.check_trees.Reads as reads
-use Rattle.rules.proofs.stages.check_trees.Lts as lts
-use Rattle.errors.proofs.lowest.Reads as lowest-reads
-use Rattle.rules.proofs.stages.check_side.Reads as check-side-reads
 
 check-side-requires : tie.Need-check-side-requires
 check-side-requires c κs = search needs
@@ -19,7 +15,9 @@ lowest-requires : tie.Need-lowest-requires
 lowest-requires c κs = search needs
 
 returns : tie.Need-returns
-returns c = c .lowest .ensures ∙ rw (c .before .check-side2 .ensures, c .before .before .check-side .ensures)
+returns c =
+    let c₁ = c .before in let c₂ = c₁ .before in
+    c .lowest .ensures ∙ rw (c₁ .check-side2 .ensures, c₂ .check-side .ensures)
 
 pub check-trees-spec : {M : Type 1} → statement M
 check-trees-spec =

@@ -4,8 +4,6 @@ use mathlib.Core.Path.{sym}
 use borrow.Author.Tests.{eq-eqb, ne-eqb}
 use Rattle.rules.proofs.stages.owner_of.Statement.{statement}
 use Rattle.rules.proofs.stages.owner_of.Tie as tie
-use Rattle.rules.proofs.stages.owner_of.Reads as reads
-use Rattle.rules.proofs.stages.owner_of.Lts as lts
 
 returns : tie.Need-returns
 returns c = sym (rw (eq-eqb _ _ (c .if1 .taken)))

@@ -3,8 +3,6 @@
 use borrow.Author.Needs.{needs}
 use Rattle.ssr.proofs.rule_exports.call_numbers.Statement.{statement}
 use Rattle.ssr.proofs.rule_exports.call_numbers.Tie as tie
-use Rattle.ssr.proofs.rule_exports.call_numbers.Reads as reads
-use Rattle.ssr.proofs.rule_exports.call_numbers.Lts as lts
 
 enum-told : tie.Need-enum-told
 enum-told c = search needs

@@ -5,14 +5,6 @@ use Rattle.ssr.specs.Exports.{nothingResolved, elementResolved}
 use borrow.Author.Needs.{needs}
 use Rattle.ssr.proofs.rule_exports.ssr_resolve.Statement.{statement}
 use Rattle.ssr.proofs.rule_exports.ssr_resolve.Tie as tie
-use Rattle.ssr.proofs.rule_exports.ssr_resolve.Reads as reads
-use Rattle.ssr.proofs.rule_exports.ssr_resolve.Lts as lts
-use Rattle.errors.proofs.number_of.Reads as number-of-reads
-use Rattle.resolving.proofs.operation.resolve_rules.Reads as resolve-rules-reads
-use Rattle.ssr.proofs.rule_exports.call_numbers.Reads as call-numbers-reads
-use Rattle.ssr.proofs.rule_exports.flag.Reads as flag-reads
-use Rattle.ssr.proofs.rule_exports.no_element.Reads as no-element-reads
-use Rattle.ssr.proofs.rule_exports.path_numbers.Reads as path-numbers-reads
 
 resolve-rules-requires : tie.Need-resolve-rules-requires
 resolve-rules-requires c κs = search needs

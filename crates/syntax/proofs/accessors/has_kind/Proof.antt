@@ -4,10 +4,6 @@ use mathlib.Core.Path.{_≡_, _∙_, sym}
 use borrow.Author.Needs.{needs}
 use Rattle.syntax.proofs.accessors.has_kind.Statement.{statement}
 use Rattle.syntax.proofs.accessors.has_kind.Tie as tie
-use Rattle.syntax.proofs.accessors.has_kind.Reads as reads
-use Rattle.syntax.proofs.accessors.has_kind.Lts as lts
-use Rattle.syntax.proofs.accessors.is_node_in.Reads as is-node-in-reads
-use Rattle.syntax.proofs.accessors.is_token_in.Reads as is-token-in-reads
 
 is-node-in-requires : tie.Need-is-node-in-requires
 is-node-in-requires c κs = search needs
