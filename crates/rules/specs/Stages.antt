@@ -27,10 +27,12 @@ directoryOutcome directory words bytes = firstOf (record { fails = not (isDirect
 abbrev pub listsOutcome : Pair → Outcome
 listsOutcome p = pairOutcome (listOf 0 p) (textOf 0 p) (isGiven 1 p) (listOf 1 p) (textOf 1 p)
 
--- 18 to 20 of a form's tree on one side, or 18 to 21 where facts are looked at, with a fact text of m bytes
+-- a side's trees are the pattern's where it is 0
 abbrev pub ownerOf : ℕ → Owner
 ownerOf side = cond (eqb side 0) Pattern Template
 
+-- 18 to 20 of a form's tree on one side, or 18 to 21 where facts are looked at, with a fact text of m bytes: else it is as if none were
+-- handed in
 abbrev pub factsIf : Bool → Pair → ℕ → ℕ → List ℕ
 factsIf looked p side form = cond looked (factsOf side form p) []
 

@@ -27,8 +27,8 @@ pub enum Stage {
     Forms,
 }
 
-// The owner of a side's trees.
-fn owner_of(side: usize) -> Owner
+// The owner of a side's trees: the pattern's is 0.
+pub fn owner_of(side: usize) -> Owner
     ensures { λ r. ⌜ r ≡ ownerOf side ⌝ }
 {
     if side == 0 {

@@ -13,8 +13,7 @@ use Rattle.parsing.specs.Answers.{answerOf}
 use Rattle.validating.specs.Pairs.{pairOutcome}
 use Rattle.rust_code.specs.declared.Written.{Written}
 use Rattle.rust_code.specs.RawCode.{writtenNumber, writtenLength}
-use Rattle.facts.specs.declared.Owner.{Owner}
-use Rattle.facts.specs.declared.Owner.the-variants.{Pattern, Template}
+use Rattle.rules.specs.Stages.{ownerOf}
 use Rattle.trees.specs.Given.{fileOutcome, givenOutcome}
 use Rattle.rules.specs.declared.forms.TemplateTree.{TemplateTree}
 use Rattle.rules.specs.declared.forms.TemplateTree.the-variants.{Absent, Own, StandIn, Missing}
@@ -54,17 +53,13 @@ pairNumber words text given words′ text′ = outcomeNumber (pairOutcome words 
 abbrev pub codeWritten : Written → RawCode
 codeWritten w = record { refusal = writtenNumber w; length = writtenLength w }
 
--- a rule's tree is the pattern's where its side is 0
-abbrev pub sideOwner : ℕ → Owner
-sideOwner side = cond (eqb side 0) Pattern Template
-
 -- the file's tree with its facts, and a rule's: 01's number, 0 where nothing is refused
 abbrev pub fileNumber : List ℕ → List ℕ → List ℕ → ℕ
 fileNumber words text facts = outcomeNumber (fileOutcome words text facts)
 
 abbrev pub ruleTreeNumber : ℕ → List ℕ → List ℕ → ℕ → List ℕ → List ℕ → List ℕ → List ℕ → ℕ
 ruleTreeNumber given list text side words code facts factText =
-    outcomeNumber (givenOutcome (not (eqb given 0)) list text (sideOwner side) words code facts (length factText))
+    outcomeNumber (givenOutcome (not (eqb given 0)) list text (ownerOf side) words code facts (length factText))
 
 -- a rule's template tree: none given, its own, the statement's, missing
 abbrev pub templateNumber : TemplateTree → ℕ

@@ -2,9 +2,9 @@
 // include/ssr.h declares them.
 pub mod rule_exports; // rule_exports.rt: the operations on rules
 
-use facts::Owner;
 use parsing::patterns;
 use parsing::patterns::Placeholder;
+use rules::stages;
 use rust_code::Written;
 ghost use mathlib.Core.Path.{_≡_};
 ghost use mathlib.Core.List.{map};
@@ -12,7 +12,7 @@ ghost use lib.ListN.{length};
 ghost use Rattle.words.specs.Buffer.{usedOf, filled};
 ghost use Rattle.parsing.specs.Reading.{reading};
 ghost use Rattle.rust_code.specs.RawCode.{codeAnswer, codeBytes};
-ghost use Rattle.ssr.specs.Exports.{nameOf, tokensRead, pairNumber, codeWritten, sideOwner, fileNumber, ruleTreeNumber};
+ghost use Rattle.ssr.specs.Exports.{nameOf, tokensRead, pairNumber, codeWritten, fileNumber, ruleTreeNumber};
 
 // A placeholder: the bytes of its name in the list's text, and how many constraints it has.
 #[repr(C)]
@@ -113,16 +113,6 @@ pub extern "C" fn ssr_raw_code(words: &[u32], text: &[u8], out: &mut [u8]) -> Ra
     }
 }
 
-// The owner of a rule's tree: the pattern's where the side is 0.
-fn owner_of(side: u32) -> Owner
-    ensures { λ r. ⌜ r ≡ sideOwner side ⌝ }
-{
-    if side == 0 {
-        return Owner::Pattern;
-    }
-    Owner::Template
-}
-
 // The file's tree with its facts: 01's number.
 #[no_mangle]
 pub extern "C" fn ssr_check_file(words: &[u32], text: &[u8], facts: &[u32]) -> u32
@@ -145,7 +135,7 @@ pub extern "C" fn ssr_check_rule_tree(
 ) -> u32
     ensures { λ r. ⌜ r ≡ ruleTreeNumber given (now (list .entry)) (now (text .entry)) side (now (words .entry)) (now (code .entry)) (now (facts .entry)) (now («fact_text» .entry)) ⌝ }
 {
-    let owner = owner_of(side);
+    let owner = stages::owner_of(side as usize);
     let bytes = fact_text.len();
     errors::outcome_number(trees::check_given_tree(
         given != 0,
