@@ -27,7 +27,7 @@ use Rattle.resolving.specs.declared.asking.Element.{Element}
 use Rattle.resolving.specs.declared.asking.Resolved.{Resolved}
 use Rattle.resolving.specs.declared.asking.Resolved.the-variants as resolved
 
--- an element of a form's tree on a side; "contains_self: a token of kind 11" is anywhere in the tree
+-- an element of a form's tree on a side; `contains_self` of docs/src/src/resolving.rs: a `self` token, kind 11, anywhere in the tree
 abbrev pub elementOf : Pair → ℕ → ℕ → ℕ → Element
 elementOf p side form e = record {
   path = pathAt (sideAt p side form) (tree (treeOf side form p)) e;

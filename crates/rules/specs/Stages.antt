@@ -19,7 +19,7 @@ use Rattle.rules.specs.Forms.{hasRule}
 use Rattle.rules.specs.declared.stages.Stage.{Stage}
 use Rattle.rules.specs.declared.stages.Stage.the-variants.{Lists, Trees, TreesWithFacts, Forms}
 
--- "any fault of the directory is refusal 1"
+-- 1, docs/FORMAT.md, "Rules": a directory that is none
 abbrev pub directoryOutcome : List ℕ → List ℕ → List ℕ → Outcome
 directoryOutcome directory words bytes = firstOf (record { fails = not (isDirectory directory words bytes); refusal = MalformedList } ∷ [])
 

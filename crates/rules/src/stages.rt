@@ -144,8 +144,8 @@ fn check_lists(row: &[u32], words: &[u32], bytes: &[u8]) -> Outcome
     )
 }
 
-// The forms of a pair.
-fn check_forms_left(row: &[u32], words: &[u32]) -> Outcome
+// Whether a form of a pair is a rule.
+fn check_any_form(row: &[u32], words: &[u32]) -> Outcome
     ensures { λ r. ⌜ r ≡ formsOutcome (inWords (now (row .entry)) (now (words .entry))) ⌝ }
 {
     let rules = forms::rule_forms(row, words);
@@ -163,7 +163,7 @@ fn check_pair(stage: Stage, row: &[u32], words: &[u32], bytes: &[u8], fact_bytes
         Stage::Lists => check_lists(row, words, bytes),
         Stage::Trees => check_trees(false, row, words, bytes, fact_bytes),
         Stage::TreesWithFacts => check_trees(true, row, words, bytes, fact_bytes),
-        Stage::Forms => check_forms_left(row, words),
+        Stage::Forms => check_any_form(row, words),
     }
 }
 

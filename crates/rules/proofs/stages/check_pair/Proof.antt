@@ -26,8 +26,8 @@ check-trees-requires-2 c κs = search needs
 enum-told-4 : tie.Need-enum-told-4
 enum-told-4 c = search needs
 
-check-forms-left-requires : tie.Need-check-forms-left-requires
-check-forms-left-requires c κs = search needs
+check-any-form-requires : tie.Need-check-any-form-requires
+check-any-form-requires c κs = search needs
 
 returns : tie.Need-returns
 returns c = c .check-lists .ensures ∙ sym (rw (c .before .enum-told .given .1))
@@ -39,7 +39,7 @@ returns-3 : tie.Need-returns-3
 returns-3 c = c .check-trees2 .ensures ∙ sym (rw (c .before .enum-told3 .given .1))
 
 returns-4 : tie.Need-returns-4
-returns-4 c = c .check-forms-left .ensures ∙ sym (rw (c .before .enum-told4 .given .1))
+returns-4 c = c .check-any-form .ensures ∙ sym (rw (c .before .enum-told4 .given .1))
 
 pub check-pair-spec : {M : Type 1} → statement M
 check-pair-spec =
@@ -52,7 +52,7 @@ check-pair-spec =
     enum-told-3
     check-trees-requires-2
     enum-told-4
-    check-forms-left-requires
+    check-any-form-requires
     returns
     returns-2
     returns-3

@@ -1,4 +1,4 @@
--- `rules::stages::check_forms_left` meets its contract.
+-- `rules::stages::check_any_form` meets its contract.
 -- Assumes nothing.
 use denote.Ref.{now}
 use Rattle.fragments.specs.Pairs.{inWords}
@@ -6,8 +6,8 @@ use mathlib.Core.Path.{_∙_, sym, ap}
 use Rattle.rules.specs.Forms.{any}
 use Rattle.rules.proofs.StageLaws.{has-forms, no-forms}
 use borrow.Author.Needs.{needs}
-use Rattle.rules.proofs.stages.check_forms_left.Statement.{statement}
-use Rattle.rules.proofs.stages.check_forms_left.Tie as tie
+use Rattle.rules.proofs.stages.check_any_form.Statement.{statement}
+use Rattle.rules.proofs.stages.check_any_form.Tie as tie
 
 rule-forms-requires : tie.Need-rule-forms-requires
 rule-forms-requires c κs = search needs
@@ -27,5 +27,5 @@ returns-2 c =
     sym (no-forms (inWords (now (c₅ .args .row)) (now (c₅ .args .words))) (sym (ap any (c₂ .rule-forms .ensures)) ∙ sym (c₁ .any .ensures) ∙
     c .if1 .left))
 
-pub check-forms-left-spec : {M : Type 1} → statement M
-check-forms-left-spec = tie.close (tie.spec rule-forms-requires any-requires returns returns-2)
+pub check-any-form-spec : {M : Type 1} → statement M
+check-any-form-spec = tie.close (tie.spec rule-forms-requires any-requires returns returns-2)
