@@ -1,0 +1,3 @@
+pub mod Matcher
+pub mod Tokens
+pub mod FileFacts
