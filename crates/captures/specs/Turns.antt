@@ -18,7 +18,7 @@ Giving = ℕ → List ℕ → ℕ → List ℕ → State → List ℕ → Answer
 
 pub record TurnOf (left whole : Giving) (pe : ℕ) (p : List ℕ) (ce : ℕ) (c : List ℕ) (s : State) (out : List ℕ) (r : Turn) (out′ : List ℕ) : Type 0 where
   pub goes : r .go ≡ true → (a : Answer) (end : List ℕ)
-    → left (pe + r .p) (drop (r .p * 3) p) (ce + r .c) (drop (r .c * 3) c) (r .state) out′ a end → whole pe p ce c s out a end
+      → left (pe + r .p) (drop (r .p * 3) p) (ce + r .c) (drop (r .c * 3) c) (r .state) out′ a end → whole pe p ce c s out a end
   pub stops : r .go ≡ false → whole pe p ce c s out noMatch out′
 
 -- it uses up no more than there is, and some of the code where it goes on

@@ -75,10 +75,7 @@ pub fn fail() -> Answer
 pub fn done(s: State) -> Answer
     ensures { λ r. ⌜ r ≡ record { ok = true; state = s } ⌝ }
 {
-    Answer {
-        ok: true,
-        state: s,
-    }
+    Answer { ok: true, state: s }
 }
 
 // No match in a turn.

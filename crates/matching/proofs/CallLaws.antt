@@ -34,13 +34,13 @@ then-failed (matched es) = refl
 
 module _ (x : Matcher) (p c : Elems) (n : ℕ) where
   method-receives : sameFunction x p c ≡ true → some (firstChild 7 p) ≡ true → some (firstChild 7 c) ≡ true → takesReceiver x p c ≡ true
-    → matchMethodCall (suc n) x p c ≡ andThen (matchReceiver n x p c) (matchArguments n x (rest (argumentOf p)) (argumentsOf c))
+      → matchMethodCall (suc n) x p c ≡ andThen (matchReceiver n x p c) (matchArguments n x (rest (argumentOf p)) (argumentsOf c))
   unfolding matchNode
   method-receives f a b t = rw (f, a, b, t, given-true (matchArguments n x (rest (argumentOf p)) (argumentsOf c)))
       (given-true (andThen (matchReceiver n x p c) (matchArguments n x (rest (argumentOf p)) (argumentsOf c))))
 
   method-leaves : sameFunction x p c ≡ true → some (firstChild 7 p) ≡ true → some (firstChild 7 c) ≡ true → takesReceiver x p c ≡ false
-    → matchMethodCall (suc n) x p c ≡ matchArguments n x (argumentsOf p) (argumentsOf c)
+      → matchMethodCall (suc n) x p c ≡ matchArguments n x (argumentsOf p) (argumentsOf c)
   unfolding matchNode
   method-leaves f a b t = rw (f, a, b, t, given-true (matchArguments n x (argumentsOf p) (argumentsOf c)), then-nothing (matchArguments n x (argumentsOf p) (argumentsOf c)))
       (given-true (matchArguments n x (argumentsOf p) (argumentsOf c)))
@@ -126,17 +126,17 @@ module _ (x : Matcher) (pe : ℕ) (p : List ℕ) (ce : ℕ) (c : List ℕ) (s : 
           number = omega arith
 
       pub method-plain : (r : Answer) (end : List ℕ) → takesReceiver x (elems pe p) (elems ce c) ≡ false → ArgumentsGive x (pe + 2 + j) v (ce + 2 + i) w s out r end
-        → MethodCallGives x pe p ce c s out r end
+          → MethodCallGives x pe p ce c s out r end
       method-plain r end t g = by-suc _ (λ m h. same-gives (method-leaves x _ _ m same some-p some-c t) (rw (arguments-p, arguments-c) at (g m (omega (arith, h, fewer)))))
 
       pub method-receiver-fails : (r r′ : Answer) (out′ : List ℕ) → takesReceiver x (elems pe p) (elems ce c) ≡ true → ReceiverGives x pe p ce c s out r out′ → r .ok ≡ false → r′ ≡ noMatch
-        → MethodCallGives x pe p ce c s out r′ out′
+          → MethodCallGives x pe p ce c s out r′ out′
       method-receiver-fails r r′ out′ t g e f =
           by-suc _ (λ m h. same-gives (method-receives x _ _ m same some-p some-c t) (first-fails _ s out r out′ r′ _ (g m (omega (arith, h))) e f))
 
       pub method-receiver : (r r′ : Answer) (t : State) (out′ end : List ℕ) (k : ℕ) (q : List ℕ) → takesReceiver x (elems pe p) (elems ce c) ≡ true → ReceiverGives x pe p ce c s out r out′
-        → r .ok ≡ true → t ≡ r .state → ((e : ℕ) → elems (e + k) (drop (k * 3) v) ≡ rest (findExpression (elems e v))) → q ≡ drop (k * 3) v
-        → ArgumentsGive x (pe + 2 + j + k) q (ce + 2 + i) w t out′ r′ end → MethodCallGives x pe p ce c s out r′ end
+          → r .ok ≡ true → t ≡ r .state → ((e : ℕ) → elems (e + k) (drop (k * 3) v) ≡ rest (findExpression (elems e v))) → q ≡ drop (k * 3) v
+          → ArgumentsGive x (pe + 2 + j + k) q (ce + 2 + i) w t out′ r′ end → MethodCallGives x pe p ce c s out r′ end
       method-receiver r r′ t out′ end k q u g e f first behind l = by-suc _ (λ m h. same-gives (method-receives x _ _ m same some-p some-c u)
           (both-match _ s out r out′ r′ _ t end (g m (omega (arith, h))) e f (rw (left, arguments-c) at (l m (omega (arith, h, fewer, ap length behind, length-drop (k * 3) v))))))
         where
@@ -154,15 +154,17 @@ module _ (x : Matcher) (p c : Elems) (n : ℕ) (d : Derefs) where
 
 -- where it is matched with an argument and the function takes self, it is there
 pub receiver-number : (x : Matcher) (p : Elems) (ce : ℕ) (c cs : List ℕ) (i : ℕ) (z : List ℕ) → 3 ≤ length c → takesReceiver x p (elems ce c) ≡ true
-  → ((e : ℕ) → elems (e + 1) cs ≡ children (elems e c)) → ((e : ℕ) → elems (e + i) (drop (i * 3) cs) ≡ findExpression (elems e cs)) → z ≡ drop (i * 3) cs
-  → takesSelf (x .facts) ce ≡ true → (3 ≤ length z) × (numberOf (receiverOf (elems ce c)) ≡ ce + 1 + i)
+    → ((e : ℕ) → elems (e + 1) cs ≡ children (elems e c)) → ((e : ℕ) → elems (e + i) (drop (i * 3) cs) ≡ findExpression (elems e cs)) → z ≡ drop (i * 3) cs
+    → takesSelf (x .facts) ce ≡ true → (3 ≤ length z) × (numberOf (receiverOf (elems ce c)) ≡ ce + 1 + i)
 receiver-number x p ce c cs i z h t below find behind self = (long, ap numberOf (sym at-z) ∙ number-is (ce + 1 + i) z long)
   where
     at-z : elems (ce + 1 + i) z ≡ receiverOf (elems ce c)
     at-z = ap (λ (l : List ℕ). elems (ce + 1 + i) l) behind ∙ find (ce + 1) ∙ ap findExpression (below ce)
+
     both : (a b : Bool) → (a && b) ≡ true → b ≡ true
     both true b e = e
     both false b e = absurd (false≢true e)
+
     long : 3 ≤ length z
     long = long-some (ce + 1 + i) z (ap some at-z ∙ both (isTyped (callOf x p)) (some (receiverOf (elems ce c))) (rw (number-is ce c h, self) at t))
 
@@ -177,6 +179,7 @@ module _ (x : Matcher) (pe : ℕ) (p : List ℕ) (ce : ℕ) (c : List ℕ) (s : 
     where
       number : pe + 2 + j ≡ pe + 1 + j + 1
       number = omega arith
+
       list-p : elems (pe + 1 + j) y ≡ firstChild 7 (elems pe p)
       list-p = ap (λ (l : List ℕ). elems (pe + 1 + j) l) behind-y ∙ find-p (pe + 1) ∙ ap (findNode 7 7) (below-p pe)
 
@@ -195,6 +198,6 @@ module _ (x : Matcher) (pe : ℕ) (p : List ℕ) (ce : ℕ) (c : List ℕ) (s : 
         by-suc _ (λ n h. same-gives (receiver-fits x _ _ n fits) (first-fails _ s out r out′ r′ _ (rw (argument-is, receiver-is) at (g n (omega (arith, h, receiver-fewer)))) e f))
 
     pub receiver-matches : (r r′ : Answer) (t : State) (out′ : List ℕ) → OptGives x (pe + 2 + j + m) q (ce + 1 + i) z s out r out′ → r .ok ≡ true → t ≡ r .state
-      → Gives (prefixed x (elems pe p) (elems ce c)) t out′ r′ out′ → ReceiverGives x pe p ce c s out r′ out′
+        → Gives (prefixed x (elems pe p) (elems ce c)) t out′ r′ out′ → ReceiverGives x pe p ce c s out r′ out′
     receiver-matches r r′ t out′ g e f l =
         by-suc _ (λ n h. same-gives (receiver-fits x _ _ n fits) (both-match _ s out r out′ r′ _ t out′ (rw (argument-is, receiver-is) at (g n (omega (arith, h, receiver-fewer)))) e f l))

@@ -36,14 +36,14 @@ gives-same {a} {s} {out} {r} e f = same-gives e (rw (f) (gives-done s out))
 -- ---- nodes: a placeholder's constraints allow the code's node, or not
 module _ (x : Matcher) (p c : Elems) (s : State) (out : List ℕ) (m slot : ℕ) (r : Answer) where
   pub node-bound : (t : State) → slotOf x p ≡ slot → ltb (slotOf x p) 8 ≡ true → x .allows slot (nodeIn 66 66 c) ≡ true
-    → t ≡ recordedOne (length out) (Bound slot (binding c c 0 0)) s → r ≡ record { ok = true; state = t } → Gives (matchNode (suc m) x p c) s out r out
+      → t ≡ recordedOne (length out) (Bound slot (binding c c 0 0)) s → r ≡ record { ok = true; state = t } → Gives (matchNode (suc m) x p c) s out r out
   node-bound t e l a b f = same-gives taken (rw (f, b) (gives-event (Bound slot (binding c c 0 0)) s out))
     where
       taken : matchNode (suc m) x p c ≡ matched (Bound slot (binding c c 0 0) ∷ [])
       taken = node-takes x p c m l ∙ rw (e, a)
 
   pub node-barred : slotOf x p ≡ slot → ltb (slotOf x p) 8 ≡ true → x .allows slot (nodeIn 66 66 c) ≡ false → r ≡ noMatch
-    → Gives (matchNode (suc m) x p c) s out r out
+      → Gives (matchNode (suc m) x p c) s out r out
   node-barred e l a f = gives-no (node-takes x p c m l ∙ rw (e, a)) f refl
 
 -- ---- one attempt and then another
@@ -62,7 +62,7 @@ module _ (a : Attempt) (s : State) (out : List ℕ) (r : Answer) (out′ : List 
       same-gives (ap (λ (w : Bool). andThen a (given w)) t) (rw (f) (leads-then a failed s out r out′ g e noMatch out′ (gives-failed (r .state) out′ out′ refl)))
 
 pub test-holds : (a : Attempt) (s : State) (out : List ℕ) (r : Answer) (out′ : List ℕ) (v : Bool) → Gives a s out r out′ → r .ok ≡ true → v ≡ true
-  → Gives (andThen a (given v)) s out r out′
+    → Gives (andThen a (given v)) s out r out′
 test-holds a s out r out′ v g e t = same-gives (ap (λ (w : Bool). andThen a (given w)) t) (gives-end g e)
 
 -- ---- sequences: one turn
@@ -71,25 +71,25 @@ module _ (x : Matcher) (pe : ℕ) (p : List ℕ) (ce : ℕ) (c : List ℕ) (s : 
     (inside : k * 3 ≤ length p) (within : (1 ≤ n) × (n * 3 ≤ length c)) (some-code : some (elems ce c) ≡ true) where
   -- it goes on: what is left is shorter, and is what the definition goes on with
   goes-on : (j : ℕ) (ps : Elems) (t : State) (out′ : List ℕ) → j * 3 ≤ length p → elems (pe + j) (drop (j * 3) p) ≡ ps
-    → ((m : ℕ) → 5 * (length p + length c) + 3 ≤ m → (a : Answer) (end : List ℕ) → Gives (matchSequences m x ps (rest (elems ce c))) t out′ a end → Gives (matchSequences (suc m) x (elems pe p) (elems ce c)) s out a end)
-    → TurnOf (SequencesGive x) (SequencesGive x) pe p ce c s out (record { go = true; p = j; c = n; state = t }) out′
+      → ((m : ℕ) → 5 * (length p + length c) + 3 ≤ m → (a : Answer) (end : List ℕ) → Gives (matchSequences m x ps (rest (elems ce c))) t out′ a end → Gives (matchSequences (suc m) x (elems pe p) (elems ce c)) s out a end)
+      → TurnOf (SequencesGive x) (SequencesGive x) pe p ce c s out (record { go = true; p = j; c = n; state = t }) out′
   goes-on j ps t out′ there e f = record {
-      goes = λ _ a end g. by-suc _ (λ m h. f m (omega (arith, h)) a end (rw (← e, ← passes ce) (g m (omega (arith, h, within .0, within .1, there, length-drop (j * 3) p, length-drop (n * 3) c)))));
-      stops = λ e. absurd (true≢false e);
-    }
+    goes = λ _ a end g. by-suc _ (λ m h. f m (omega (arith, h)) a end (rw (← e, ← passes ce) (g m (omega (arith, h, within .0, within .1, there, length-drop (j * 3) p, length-drop (n * 3) c)))));
+    stops = λ e. absurd (true≢false e);
+  }
 
   -- it stops
   stops-here : (out′ : List ℕ) → length out′ ≡ length out → ((m : ℕ) → 5 * (length p + length c) + 3 ≤ m → Gives (matchSequences (suc m) x (elems pe p) (elems ce c)) s out noMatch out′)
-    → TurnOf (SequencesGive x) (SequencesGive x) pe p ce c s out stopped out′
+      → TurnOf (SequencesGive x) (SequencesGive x) pe p ce c s out stopped out′
   stops-here out′ l f = record {
-      goes = λ e. absurd (true≢false (sym e));
-      stops = λ _. by-suc _ (λ m h. f m (omega (arith, h)));
-    }
+    goes = λ e. absurd (true≢false (sym e));
+    stops = λ _. by-suc _ (λ m h. f m (omega (arith, h)));
+  }
 
   -- trivia
   pub turn-trivia : (t : State) (out′ : List ℕ) → isTrivia (elems ce c) ≡ true
-    → ((left : Attempt) → Leads left (andThen (note (x .text) (elems ce c)) left) s out t out′)
-    → TurnOf (SequencesGive x) (SequencesGive x) pe p ce c s out (record { go = true; p = k; c = n; state = t }) out′
+      → ((left : Attempt) → Leads left (andThen (note (x .text) (elems ce c)) left) s out t out′)
+      → TurnOf (SequencesGive x) (SequencesGive x) pe p ce c s out (record { go = true; p = k; c = n; state = t }) out′
   turn-trivia t out′ v leads = goes-on k _ t out′ inside (skips pe)
       (λ m h a end g. same-gives (sequence-trivia x (elems pe p) (elems ce c) m some-code v) (leads _ a end g))
 
@@ -99,37 +99,37 @@ module _ (x : Matcher) (pe : ℕ) (p : List ℕ) (ce : ℕ) (c : List ℕ) (s : 
     at-y = ap (λ (l : List ℕ). elems (pe + k) l) behind ∙ skips pe
 
     pub turn-token : (j : ℕ) → isToken (elems ce c) ≡ true → j * 3 ≤ length y → matchesToken (x .sheet) (x .code) (x .text) (elems (pe + k) y) (elems ce c) ≡ true
-      → elems (pe + k + j) (drop (j * 3) y) ≡ afterToken (x .sheet) (elems (pe + k) y) (elems ce c)
-      → TurnOf (SequencesGive x) (SequencesGive x) pe p ce c s out (record { go = true; p = k + j; c = n; state = s }) out
+        → elems (pe + k + j) (drop (j * 3) y) ≡ afterToken (x .sheet) (elems (pe + k) y) (elems ce c)
+        → TurnOf (SequencesGive x) (SequencesGive x) pe p ce c s out (record { go = true; p = k + j; c = n; state = s }) out
     turn-token j v there ok e = goes-on (k + j) _ s out (omega (arith, there, inside, ap length behind, length-drop (k * 3) p))
         (pass-more pe k j p ∙ ap (λ (l : List ℕ). elems (pe + k + j) (drop (j * 3) l)) (sym behind) ∙ e ∙ ap (λ (q : Elems). afterToken (x .sheet) q (elems ce c)) at-y)
         (λ m h a end g. same-gives (sequence-token x (elems pe p) (elems ce c) m some-code plain v (ap (λ (q : Elems). matchesToken (x .sheet) (x .code) (x .text) q (elems ce c)) (sym at-y) ∙ ok)) g)
 
     pub turn-other-token : isToken (elems ce c) ≡ true → matchesToken (x .sheet) (x .code) (x .text) (elems (pe + k) y) (elems ce c) ≡ false
-      → TurnOf (SequencesGive x) (SequencesGive x) pe p ce c s out stopped out
+        → TurnOf (SequencesGive x) (SequencesGive x) pe p ce c s out stopped out
     turn-other-token v other = stops-here out refl
         (λ m h. gives-no (sequence-other-token x (elems pe p) (elems ce c) m some-code plain v (ap (λ (q : Elems). matchesToken (x .sheet) (x .code) (x .text) q (elems ce c)) (sym at-y) ∙ other)) refl refl)
 
     -- a node
     pub turn-node : (j : ℕ) (t : State) (r : Answer) (out′ : List ℕ) → isToken (elems ce c) ≡ false → isNode (elems (pe + k) y) ≡ true → NodeGives x (pe + k) y ce c s out r out′ → r .ok ≡ true
-      → t ≡ r .state → j * 3 ≤ length y → elems (pe + k + j) (drop (j * 3) y) ≡ rest (elems (pe + k) y)
-      → TurnOf (SequencesGive x) (SequencesGive x) pe p ce c s out (record { go = true; p = k + j; c = n; state = t }) out′
+        → t ≡ r .state → j * 3 ≤ length y → elems (pe + k + j) (drop (j * 3) y) ≡ rest (elems (pe + k) y)
+        → TurnOf (SequencesGive x) (SequencesGive x) pe p ce c s out (record { go = true; p = k + j; c = n; state = t }) out′
     turn-node j t r out′ v w g ok f there e = goes-on (k + j) _ t out′ (omega (arith, there, inside, ap length behind, length-drop (k * 3) p))
         (pass-more pe k j p ∙ ap (λ (l : List ℕ). elems (pe + k + j) (drop (j * 3) l)) (sym behind) ∙ e ∙ ap (λ (q : Elems). rest q) at-y)
         (λ m h a end l. same-gives (sequence-node x (elems pe p) (elems ce c) m some-code plain v (ap (λ (q : Elems). isNode q) (sym at-y) ∙ w))
-            (both-match _ s out r out′ a _ t end (rw (← at-y) (g m (omega (arith, h, ap length behind, length-drop (k * 3) p)))) ok f l))
+        (both-match _ s out r out′ a _ t end (rw (← at-y) (g m (omega (arith, h, ap length behind, length-drop (k * 3) p)))) ok f l))
 
     pub turn-other-node : (r : Answer) (out′ : List ℕ) → isToken (elems ce c) ≡ false → isNode (elems (pe + k) y) ≡ true → NodeGives x (pe + k) y ce c s out r out′ → r .ok ≡ false
-      → length out′ ≡ length out → TurnOf (SequencesGive x) (SequencesGive x) pe p ce c s out stopped out′
+        → length out′ ≡ length out → TurnOf (SequencesGive x) (SequencesGive x) pe p ce c s out stopped out′
     turn-other-node r out′ v w g other l = stops-here out′ l
         (λ m h. same-gives (sequence-node x (elems pe p) (elems ce c) m some-code plain v (ap (λ (q : Elems). isNode q) (sym at-y) ∙ w))
-            (first-fails _ s out r out′ noMatch _ (rw (← at-y) (g m (omega (arith, h, ap length behind, length-drop (k * 3) p)))) other refl))
+        (first-fails _ s out r out′ noMatch _ (rw (← at-y) (g m (omega (arith, h, ap length behind, length-drop (k * 3) p)))) other refl))
 
     pub turn-other : isToken (elems ce c) ≡ false → isNode (elems (pe + k) y) ≡ false → TurnOf (SequencesGive x) (SequencesGive x) pe p ce c s out stopped out
     turn-other v w = stops-here out refl (λ m h. gives-no (sequence-other x (elems pe p) (elems ce c) m some-code plain v (ap (λ (q : Elems). isNode q) (sym at-y) ∙ w)) refl refl)
 
 -- a turn that stopped
 pub stopped-turn : (x : Matcher) (pe : ℕ) (p : List ℕ) (ce : ℕ) (c : List ℕ) (s : State) (out : List ℕ) (r : Turn) (out′ : List ℕ) → r ≡ stopped → length out′ ≡ length out
-  → TurnOf (SequencesGive x) (SequencesGive x) pe p ce c s out stopped out′
-  → ((length out′ ≡ length out) × Steps p c r) × TurnOf (SequencesGive x) (SequencesGive x) pe p ce c s out r out′
+    → TurnOf (SequencesGive x) (SequencesGive x) pe p ce c s out stopped out′
+    → ((length out′ ≡ length out) × Steps p c r) × TurnOf (SequencesGive x) (SequencesGive x) pe p ce c s out r out′
 stopped-turn x pe p ce c s out r out′ e l t = rw (e) ((l, record { pattern = omega arith; code = omega arith; falls = λ g. absurd (true≢false (sym g)) }), t)

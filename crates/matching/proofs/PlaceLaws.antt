@@ -30,6 +30,7 @@ one-short i j l k h = by (ltb (length l) 3) refl
     and-false : (b : Bool) → (b && false) ≡ false
     and-false true = refl
     and-false false = refl
+
     by : (b : Bool) → ltb (length l) 3 ≡ b → (some (elems i l) && some (elems j k)) ≡ false
     by true e = rw (some-short i l (ltb-true _ _ e))
     by false e = rw (some-short j k (ltb-true _ _ (rw (e) at h))) (and-false (some (elems i l)))
@@ -49,7 +50,7 @@ node-long i l h = long-some i l (some-node (elems i l) h)
 
 -- the part that begins at a child that is found, or is empty
 pub found-below : (low high pe : ℕ) (p ps : List ℕ) (j : ℕ) (y : List ℕ) → ((e : ℕ) → elems (e + 1) ps ≡ children (elems e p))
-  → ((e : ℕ) → elems (e + j) (drop (j * 3) ps) ≡ findNode low high (elems e ps)) → y ≡ drop (j * 3) ps → elems (pe + 1 + j) y ≡ findNode low high (children (elems pe p))
+    → ((e : ℕ) → elems (e + j) (drop (j * 3) ps) ≡ findNode low high (elems e ps)) → y ≡ drop (j * 3) ps → elems (pe + 1 + j) y ≡ findNode low high (children (elems pe p))
 found-below low high pe p ps j y below find behind = ap (λ (l : List ℕ). elems (pe + 1 + j) l) behind ∙ find (pe + 1) ∙ ap (findNode low high) (below pe)
 
 pub found-long : (i : ℕ) (l : List ℕ) (c : Elems) → elems i l ≡ c → some c ≡ true → 3 ≤ length l
@@ -66,7 +67,7 @@ module _ (rule file marks words facts : List ℕ) (cx : Context) (pe : ℕ) (p :
   slot-high slot e l = ap (λ (n : ℕ). ltb n 8) (slot-is ∙ sym e) ∙ le-ltb slot 8 l
 
   pub call-node : (kind : ℕ) (c : Elems) (k b v : Bool) → k ≡ isCall (callIn marks pe) → b ≡ nodeIn kind kind c → (k && b) ≡ v
-    → (isCall (callOf (matcherOf rule file marks words facts cx) (elems pe p)) && nodeIn kind kind c) ≡ v
+      → (isCall (callOf (matcherOf rule file marks words facts cx) (elems pe p)) && nodeIn kind kind c) ≡ v
   call-node kind c k b v e f t =
       ap (λ (n : ℕ). isCall (callIn marks n) && nodeIn kind kind c) (number-is pe p h) ∙ rw (← e, ← f) t
 

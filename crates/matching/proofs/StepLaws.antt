@@ -43,17 +43,17 @@ module _ (x : Matcher) (p c : Elems) (n : ℕ) where
   node-method h m = rw (h, m)
 
   pub node-ufcs : ltb (slotOf x p) 8 ≡ false → (isCall (callOf x p) && nodeIn 65 65 c) ≡ false → (isCall (callOf x p) && nodeIn 64 64 c) ≡ true
-    → matchNode (suc n) x p c ≡ matchUfcs n x p c
+      → matchNode (suc n) x p c ≡ matchUfcs n x p c
   unfolding matchNode
   node-ufcs h m u = rw (h, m, u)
 
   pub node-kind : ltb (slotOf x p) 8 ≡ false → (isCall (callOf x p) && nodeIn 65 65 c) ≡ false → (isCall (callOf x p) && nodeIn 64 64 c) ≡ false
-    → eqb (kindOf p) (kindOf c) ≡ true → matchNode (suc n) x p c ≡ matchByKind n x p c
+      → eqb (kindOf p) (kindOf c) ≡ true → matchNode (suc n) x p c ≡ matchByKind n x p c
   unfolding matchNode
   node-kind h m u k = rw (h, m, u, k)
 
   pub node-other : ltb (slotOf x p) 8 ≡ false → (isCall (callOf x p) && nodeIn 65 65 c) ≡ false → (isCall (callOf x p) && nodeIn 64 64 c) ≡ false
-    → eqb (kindOf p) (kindOf c) ≡ false → matchNode (suc n) x p c ≡ failed
+      → eqb (kindOf p) (kindOf c) ≡ false → matchNode (suc n) x p c ≡ failed
   unfolding matchNode
   node-other h m u k = rw (h, m, u, k)
 
@@ -70,7 +70,7 @@ module _ (x : Matcher) (p c : Elems) (n : ℕ) where
   kind-path h t k = rw (h, t, k)
 
   pub kind-rest : eqb (kindOf c) 8 ≡ false → eqb (kindOf c) 1 ≡ false → eqb (kindOf c) 2 ≡ false
-    → matchByKind (suc n) x p c ≡ matchSequences n x (children p) (children c)
+      → matchByKind (suc n) x p c ≡ matchSequences n x (children p) (children c)
   unfolding matchNode
   kind-rest h t k = rw (h, t, k)
 
@@ -93,7 +93,7 @@ module _ (x : Matcher) (p c : Elems) (n : ℕ) where
 
   -- ---- paths
   pub path-resolved : isResolved (x .pathAt (numberOf p)) ≡ true
-    → matchPath (suc n) x p c ≡ andThen (matchSegments n x (firstChild 3 p) (firstChild 3 c)) (given (sameResolution x p c))
+      → matchPath (suc n) x p c ≡ andThen (matchSegments n x (firstChild 3 p) (firstChild 3 c)) (given (sameResolution x p c))
   unfolding matchNode
   path-resolved h = rw (h)
 
@@ -106,7 +106,7 @@ module _ (x : Matcher) (p c : Elems) (n : ℕ) where
   segments-none h = rw (h)
 
   pub segments-both : (some p && some c) ≡ true
-    → matchSegments (suc n) x p c ≡ andThen (matchOpt n x (firstChild 5 p) (firstChild 5 c)) (matchOpt n x (firstChild 6 p) (firstChild 6 c))
+      → matchSegments (suc n) x p c ≡ andThen (matchOpt n x (firstChild 5 p) (firstChild 5 c)) (matchOpt n x (firstChild 6 p) (firstChild 6 c))
   unfolding matchNode
   segments-both h = rw (h)
 
@@ -129,17 +129,17 @@ module _ (x : Matcher) (p c : Elems) (n : ℕ) where
   sequence-trivia h t = rw (h, t)
 
   pub sequence-token : some c ≡ true → isTrivia c ≡ false → isToken c ≡ true → matchesToken (x .sheet) (x .code) (x .text) (skipTrivia p) c ≡ true
-    → matchSequences (suc n) x p c ≡ matchSequences n x (afterToken (x .sheet) (skipTrivia p) c) (rest c)
+      → matchSequences (suc n) x p c ≡ matchSequences n x (afterToken (x .sheet) (skipTrivia p) c) (rest c)
   unfolding matchNode
   sequence-token h t k m = rw (h, t, k, m) (given-true (matchSequences n x (afterToken (x .sheet) (skipTrivia p) c) (rest c)))
 
   pub sequence-other-token : some c ≡ true → isTrivia c ≡ false → isToken c ≡ true → matchesToken (x .sheet) (x .code) (x .text) (skipTrivia p) c ≡ false
-    → matchSequences (suc n) x p c ≡ failed
+      → matchSequences (suc n) x p c ≡ failed
   unfolding matchNode
   sequence-other-token h t k m = rw (h, t, k, m) (given-false (matchSequences n x (afterToken (x .sheet) (skipTrivia p) c) (rest c)))
 
   pub sequence-node : some c ≡ true → isTrivia c ≡ false → isToken c ≡ false → isNode (skipTrivia p) ≡ true
-    → matchSequences (suc n) x p c ≡ andThen (matchNode n x (skipTrivia p) c) (matchSequences n x (rest (skipTrivia p)) (rest c))
+      → matchSequences (suc n) x p c ≡ andThen (matchNode n x (skipTrivia p) c) (matchSequences n x (rest (skipTrivia p)) (rest c))
   unfolding matchNode
   sequence-node h t k m = rw (h, t, k, m) (given-true (andThen (matchNode n x (skipTrivia p) c) (matchSequences n x (rest (skipTrivia p)) (rest c))))
 
@@ -153,11 +153,11 @@ module _ (x : Matcher) (p c : Elems) (n : ℕ) where
   arguments-end h k = rw (h, k)
 
   pub arguments-turn : some (findExpression c) ≡ true
-    → matchArguments (suc n) x p c ≡ andThen (matchOpt n x (findExpression p) (findExpression c)) (matchArguments n x (rest (findExpression p)) (rest (findExpression c)))
+      → matchArguments (suc n) x p c ≡ andThen (matchOpt n x (findExpression p) (findExpression c)) (matchArguments n x (rest (findExpression p)) (rest (findExpression c)))
   unfolding matchNode
   arguments-turn k = by (some (findExpression p)) refl
     where
       by : (b : Bool) → some (findExpression p) ≡ b
-        → matchArguments (suc n) x p c ≡ andThen (matchOpt n x (findExpression p) (findExpression c)) (matchArguments n x (rest (findExpression p)) (rest (findExpression c)))
+          → matchArguments (suc n) x p c ≡ andThen (matchOpt n x (findExpression p) (findExpression c)) (matchArguments n x (rest (findExpression p)) (rest (findExpression c)))
       by true e = rw (e)
       by false e = rw (e, k)

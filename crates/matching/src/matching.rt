@@ -53,13 +53,55 @@ pub fn attempt_match_node(
     }
     let is_call = marks::is_call(marks, pe);
     if is_call & accessors::is_node_in(c, 65, 65) {
-        return attempt_match_ufcs_to_method_call(p, c, rule, file, marks, words, facts, index, pe, ce, cx, s, out);
+        return attempt_match_ufcs_to_method_call(
+            p,
+            c,
+            rule,
+            file,
+            marks,
+            words,
+            facts,
+            index,
+            pe,
+            ce,
+            cx,
+            s,
+            out,
+        );
     }
     if is_call & accessors::is_node_in(c, 64, 64) {
-        return attempt_match_ufcs_to_ufcs(p, c, rule, file, marks, words, facts, index, pe, ce, cx, s, out);
+        return attempt_match_ufcs_to_ufcs(
+            p,
+            c,
+            rule,
+            file,
+            marks,
+            words,
+            facts,
+            index,
+            pe,
+            ce,
+            cx,
+            s,
+            out,
+        );
     }
     if siblings::kind_of(p) == siblings::kind_of(c) {
-        return match_by_kind(p, c, rule, file, marks, words, facts, index, pe, ce, cx, s, out);
+        return match_by_kind(
+            p,
+            c,
+            rule,
+            file,
+            marks,
+            words,
+            facts,
+            index,
+            pe,
+            ce,
+            cx,
+            s,
+            out,
+        );
     }
     captures::fail()
 }
@@ -88,17 +130,69 @@ fn match_by_kind(
 {
     let kind = siblings::kind_of(c);
     if kind == 8 {
-        return attempt_match_record_field_list(p, c, rule, file, marks, words, facts, index, pe, ce, cx, s, out);
+        return attempt_match_record_field_list(
+            p,
+            c,
+            rule,
+            file,
+            marks,
+            words,
+            facts,
+            index,
+            pe,
+            ce,
+            cx,
+            s,
+            out,
+        );
     }
     if kind == 1 {
-        return token_trees::token_trees::attempt_match_token_tree(p, c, rule, file, marks, pe, cx, s, out);
+        return token_trees::token_trees::attempt_match_token_tree(
+            p,
+            c,
+            rule,
+            file,
+            marks,
+            pe,
+            cx,
+            s,
+            out,
+        );
     }
     if kind == 2 {
-        return attempt_match_path(p, c, rule, file, marks, words, facts, index, pe, ce, cx, s, out);
+        return attempt_match_path(
+            p,
+            c,
+            rule,
+            file,
+            marks,
+            words,
+            facts,
+            index,
+            pe,
+            ce,
+            cx,
+            s,
+            out,
+        );
     }
     let ps = siblings::children(p);
     let cs = siblings::children(c);
-    attempt_match_sequences(ps, cs, rule, file, marks, words, facts, index, pe + 1, ce + 1, cx, s, out)
+    attempt_match_sequences(
+        ps,
+        cs,
+        rule,
+        file,
+        marks,
+        words,
+        facts,
+        index,
+        pe + 1,
+        ce + 1,
+        cx,
+        s,
+        out,
+    )
 }
 
 // One turn of a sequence: the first of the code's siblings.
@@ -149,7 +243,21 @@ fn sequence_turn(
         return captures::stop();
     }
     if accessors::is_node_in(y, 1, 4095) {
-        let r = attempt_match_node(y, c, rule, file, marks, words, facts, index, pe + k, ce, cx, s, out);
+        let r = attempt_match_node(
+            y,
+            c,
+            rule,
+            file,
+            marks,
+            words,
+            facts,
+            index,
+            pe + k,
+            ce,
+            cx,
+            s,
+            out,
+        );
         if r.ok {
             let t = r.state;
             return Turn {
@@ -191,7 +299,21 @@ fn attempt_match_sequences(
     let mut cn = ce;
     let mut t = s;
     while 3 <= cs.len() {
-        let u = sequence_turn(ps, cs, rule, file, marks, words, facts, index, pn, cn, cx, t, out);
+        let u = sequence_turn(
+            ps,
+            cs,
+            rule,
+            file,
+            marks,
+            words,
+            facts,
+            index,
+            pn,
+            cn,
+            cx,
+            t,
+            out,
+        );
         if u.go {
             let y = siblings::behind(ps, u.p);
             let x = siblings::behind(cs, u.c);
@@ -241,7 +363,21 @@ fn attempt_match_opt(
     if c.len() < 3 {
         return captures::fail();
     }
-    attempt_match_node(p, c, rule, file, marks, words, facts, index, pe, ce, cx, s, out)
+    attempt_match_node(
+        p,
+        c,
+        rule,
+        file,
+        marks,
+        words,
+        facts,
+        index,
+        pe,
+        ce,
+        cx,
+        s,
+        out,
+    )
 }
 
 // Matches two paths: a resolved one by what it refers to.
@@ -273,7 +409,21 @@ fn attempt_match_path(
         let i = siblings::find(cs, 3, 3);
         let y = siblings::behind(ps, j);
         let x = siblings::behind(cs, i);
-        let r = match_segments(y, x, rule, file, marks, words, facts, index, pe + 1 + j, ce + 1 + i, cx, s, out);
+        let r = match_segments(
+            y,
+            x,
+            rule,
+            file,
+            marks,
+            words,
+            facts,
+            index,
+            pe + 1 + j,
+            ce + 1 + i,
+            cx,
+            s,
+            out,
+        );
         if r.ok {
             if calls::same_resolution(marks, facts, index, pe, ce) {
                 return r;
@@ -282,7 +432,21 @@ fn attempt_match_path(
         }
         return captures::fail();
     }
-    attempt_match_sequences(ps, cs, rule, file, marks, words, facts, index, pe + 1, ce + 1, cx, s, out)
+    attempt_match_sequences(
+        ps,
+        cs,
+        rule,
+        file,
+        marks,
+        words,
+        facts,
+        index,
+        pe + 1,
+        ce + 1,
+        cx,
+        s,
+        out,
+    )
 }
 
 // Matches the argument lists of two path segments.
@@ -315,14 +479,42 @@ fn match_segments(
     let i = siblings::find(cs, 5, 5);
     let y = siblings::behind(ps, j);
     let x = siblings::behind(cs, i);
-    let r = attempt_match_opt(y, x, rule, file, marks, words, facts, index, pe + 1 + j, ce + 1 + i, cx, s, out);
+    let r = attempt_match_opt(
+        y,
+        x,
+        rule,
+        file,
+        marks,
+        words,
+        facts,
+        index,
+        pe + 1 + j,
+        ce + 1 + i,
+        cx,
+        s,
+        out,
+    );
     if r.ok {
         let m = siblings::find(ps, 6, 6);
         let n = siblings::find(cs, 6, 6);
         let v = siblings::behind(ps, m);
         let w = siblings::behind(cs, n);
         let t = r.state;
-        return attempt_match_opt(v, w, rule, file, marks, words, facts, index, pe + 1 + m, ce + 1 + n, cx, t, out);
+        return attempt_match_opt(
+            v,
+            w,
+            rule,
+            file,
+            marks,
+            words,
+            facts,
+            index,
+            pe + 1 + m,
+            ce + 1 + n,
+            cx,
+            t,
+            out,
+        );
     }
     captures::fail()
 }
@@ -362,14 +554,42 @@ fn attempt_match_record_field_list(
             return captures::fail();
         }
         if marks::has_placeholder_name(q, marks, pe + 1 + at) {
-            return attempt_match_sequences(ps, cs, rule, file, marks, words, facts, index, pe + 1, ce + 1, cx, t, out);
+            return attempt_match_sequences(
+                ps,
+                cs,
+                rule,
+                file,
+                marks,
+                words,
+                facts,
+                index,
+                pe + 1,
+                ce + 1,
+                cx,
+                t,
+                out,
+            );
         }
         let f = record_fields::field_for(ps, at, cs, rule, file, words, facts, index, ce + 1);
         let w = siblings::width(q);
         if f.named {
             if f.free {
                 let x = siblings::behind(cs, f.c);
-                let r = attempt_match_opt(q, x, rule, file, marks, words, facts, index, pe + 1 + at, ce + 1 + f.c, cx, t, out);
+                let r = attempt_match_opt(
+                    q,
+                    x,
+                    rule,
+                    file,
+                    marks,
+                    words,
+                    facts,
+                    index,
+                    pe + 1 + at,
+                    ce + 1 + f.c,
+                    cx,
+                    t,
+                    out,
+                );
                 if r.ok {
                     let v = r.state;
                     t = v;
@@ -411,7 +631,21 @@ fn attempt_match_ufcs_to_ufcs(
     if calls::first_fits(c, marks, facts, index, pe, ce) {
         let ps = siblings::children(p);
         let cs = siblings::children(c);
-        return attempt_match_sequences(ps, cs, rule, file, marks, words, facts, index, pe + 1, ce + 1, cx, s, out);
+        return attempt_match_sequences(
+            ps,
+            cs,
+            rule,
+            file,
+            marks,
+            words,
+            facts,
+            index,
+            pe + 1,
+            ce + 1,
+            cx,
+            s,
+            out,
+        );
     }
     captures::fail()
 }
@@ -451,16 +685,58 @@ fn attempt_match_ufcs_to_method_call(
         let v = siblings::children(y);
         let w = siblings::children(x);
         if calls::takes_receiver(c, marks, facts, index, pe, ce) {
-            let r = match_receiver(p, c, rule, file, marks, words, facts, index, pe, ce, cx, s, out);
+            let r = match_receiver(
+                p,
+                c,
+                rule,
+                file,
+                marks,
+                words,
+                facts,
+                index,
+                pe,
+                ce,
+                cx,
+                s,
+                out,
+            );
             if r.ok {
                 let k = calls::first_argument(v);
                 let q = siblings::behind(v, k);
                 let t = r.state;
-                return match_arguments(q, w, rule, file, marks, words, facts, index, pe + 2 + j + k, ce + 2 + i, cx, t, out);
+                return match_arguments(
+                    q,
+                    w,
+                    rule,
+                    file,
+                    marks,
+                    words,
+                    facts,
+                    index,
+                    pe + 2 + j + k,
+                    ce + 2 + i,
+                    cx,
+                    t,
+                    out,
+                );
             }
             return captures::fail();
         }
-        return match_arguments(v, w, rule, file, marks, words, facts, index, pe + 2 + j, ce + 2 + i, cx, s, out);
+        return match_arguments(
+            v,
+            w,
+            rule,
+            file,
+            marks,
+            words,
+            facts,
+            index,
+            pe + 2 + j,
+            ce + 2 + i,
+            cx,
+            s,
+            out,
+        );
     }
     captures::fail()
 }
@@ -499,7 +775,21 @@ fn match_receiver(
     let d = calls::receiver_derefs(marks, facts, index, pe, ce, ce + 1 + i);
     if d.fits {
         let n = pe + 2 + j + m;
-        let r = attempt_match_opt(q, x, rule, file, marks, words, facts, index, n, ce + 1 + i, cx, s, out);
+        let r = attempt_match_opt(
+            q,
+            x,
+            rule,
+            file,
+            marks,
+            words,
+            facts,
+            index,
+            n,
+            ce + 1 + i,
+            cx,
+            s,
+            out,
+        );
         if r.ok {
             let t = r.state;
             return captures::done(calls::prefixed(t, q, x, marks, facts, index, n, ce, d.count));
@@ -546,7 +836,21 @@ fn match_arguments(
             }
             return captures::fail();
         }
-        let r = attempt_match_opt(y, x, rule, file, marks, words, facts, index, pn + j, cn + i, cx, t, out);
+        let r = attempt_match_opt(
+            y,
+            x,
+            rule,
+            file,
+            marks,
+            words,
+            facts,
+            index,
+            pn + j,
+            cn + i,
+            cx,
+            t,
+            out,
+        );
         if r.ok {
             let k = siblings::first_width(y);
             let w = siblings::width(x);

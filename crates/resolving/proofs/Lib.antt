@@ -1,4 +1,4 @@
--- Laws of the definitions of specs/, for this crate.
-mod NeedLaws
-mod FailLaws
-mod AskLaws
+-- Laws of the definitions of specs/, for this crate and those above.
+pub mod NeedLaws
+pub mod FailLaws
+pub mod AskLaws

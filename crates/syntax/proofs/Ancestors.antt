@@ -20,7 +20,7 @@ use Rattle.syntax.specs.Checks.{WellFormed}
 use Rattle.syntax.proofs.PartLaws.{span-token, span-node}
 use Rattle.syntax.proofs.Bridge.{length-words, Built}
 use Rattle.syntax.proofs.Exactly.{tree-built}
-use Rattle.syntax.proofs.Places.{Away, away, Good, NodeLooks, looks-token, looks-node, behind-token, behind-node, good-rest-token, good-rest-node, good-children, tree-good, tree-size}
+use Rattle.syntax.proofs.Places.{Away, away, Good, looks, behind-node, good-rest-token, good-rest-node, good-children, tree-good, tree-size}
 
 -- numbers before and behind a sequence have no ancestors in it, the others have
 no-ancestors : (c : Elems) (n : ℕ) → Away n c → ancestors n c ≡ []
@@ -106,16 +106,14 @@ module _ (l : List ℕ) (n depth parent at : ℕ) (lt : at < n) where
   here-token : (j k s e : ℕ) (x : Elems) (r : Reached l n depth parent at) → r .seq ≡ token j k s e x → Here l at (token j k s e x) (r .more) 1
   here-token j k s e x r q =
       let g : Good at (token j k s e x) = subst (λ (y : Elems). Good at y) q (r .good) in
-      let g′ : Good j (token j k s e x) = subst (λ (i : ℕ). Good i (token j k s e x)) (sym (g .numbered .0)) g in
       let p : drop (at * 3) l ≡ words (token j k s e x) ++ r .more = r .stands ∙ ap (λ (y : Elems). words y ++ r .more) q in
-      record { good = g; parts = p; spans = ap span p ∙ span-token (words (token j k s e x) ++ r .more) (looks-token n j k s e x (r .more) g′ .0) }
+      record { good = g; parts = p; spans = ap span p ∙ span-token (words (token j k s e x) ++ r .more) (looks at (token j k s e x) (r .more) g refl .0) }
 
   here-node : (j k s e : ℕ) (cs x : Elems) (r : Reached l n depth parent at) → r .seq ≡ node j k s e cs x → Here l at (node j k s e cs x) (r .more) (1 + size cs)
   here-node j k s e cs x r q =
       let g : Good at (node j k s e cs x) = subst (λ (y : Elems). Good at y) q (r .good) in
-      let g′ : Good j (node j k s e cs x) = subst (λ (i : ℕ). Good i (node j k s e cs x)) (sym (g .numbered .0)) g in
       let p : drop (at * 3) l ≡ words (node j k s e cs x) ++ r .more = r .stands ∙ ap (λ (y : Elems). words y ++ r .more) q in
-      let lk = looks-node j k s e cs x (r .more) g′ in
+      let lk = looks at (node j k s e cs x) (r .more) g refl in
       record { good = g; parts = p; spans = ap span p ∙ span-node (words (node j k s e cs x) ++ r .more) (lk .not) (omega (arith, lk .sized)) ∙ lk .sized }
 
   next-of : (seq : Elems) (r : Reached l n depth parent at) → r .seq ≡ seq → at + span (drop (at * 3) l) ≤ n → Reached l n depth parent (at + span (drop (at * 3) l))

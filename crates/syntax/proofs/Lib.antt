@@ -11,3 +11,4 @@ pub mod Places
 pub mod AccessorLaws
 pub mod Unique
 pub mod Ancestors
+pub mod Elements

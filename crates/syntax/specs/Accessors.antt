@@ -103,6 +103,12 @@ elementAt n none = none
 elementAt n (token i k s e r) = cond (eqb i n) (token i k s e r) (elementAt n r)
 elementAt n (node i k s e cs r) = cond (eqb i n) (node i k s e cs r) (orElse (elementAt n cs) (elementAt n r))
 
+-- an element by itself, without what follows it
+abbrev pub byItself : Elems → Elems
+byItself none = none
+byItself (token i k s e r) = token i k s e none
+byItself (node i k s e cs r) = node i k s e cs none
+
 -- the element of a number and its ancestors, by their numbers, the outermost first
 abbrev pub below : ℕ → List ℕ → List ℕ → List ℕ
 below i [] other = other

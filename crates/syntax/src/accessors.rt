@@ -7,7 +7,7 @@ ghost use mathlib.Core.Path.{_≡_};
 ghost use Prim.Native.Nat.{ℕ, _+_, _*_, _<_, _≤_};
 ghost use lib.ListN.{length, drop};
 ghost use Rattle.syntax.specs.Trees.{elems, tree};
-ghost use Rattle.syntax.specs.Accessors.{children, rangeOf, nodeIn, tokenIn, hasKind, hasElement, findNode, firstToken, onlyIdent, elementAt, standing};
+ghost use Rattle.syntax.specs.Accessors.{children, rangeOf, nodeIn, tokenIn, hasKind, hasElement, findNode, firstToken, onlyIdent, elementAt, byItself, standing};
 ghost use Rattle.syntax.specs.Checks.{WellFormed};
 
 // The range of the first element.
@@ -140,6 +140,22 @@ pub fn is_node_at(words: &[u32], number: usize, low: u32, high: u32) -> bool
     ensures { λ r. ⌜ r ≡ nodeIn low high (elementAt number (tree (now (words .entry)))) ⌝ }
 {
     is_node_in(fields::tail(words, number * 3), low, high)
+}
+
+// The part of the element of a number by itself; empty where there is none.
+pub fn element(words: &[u32], number: usize) -> &[u32]
+    requires { ⌜ WellFormed (now words) ⌝ }
+    requires { ⌜ number < 268435456 ⌝ }
+    ensures { λ r. ⌜ elems number (now r) ≡ byItself (elementAt number (tree (now (words .entry)))) ⌝ }
+    ensures { λ r. ⌜ length (now r) ≤ length (now (words .entry)) ⌝ }
+    ensures { λ r. ⌜ (3 ≤ length (now r) → number * 3 + length (now r) ≤ length (now (words .entry))) ⌝ }
+{
+    let c = fields::tail(words, number * 3);
+    let n = parts::span_of(c) * 3;
+    if n <= c.len() {
+        return &c[..n];
+    }
+    &c[..0]
 }
 
 // Whether a number is that of a token below the element of another.

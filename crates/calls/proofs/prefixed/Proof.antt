@@ -19,9 +19,13 @@ use Rattle.calls.proofs.prefixed.Tie as tie
 
 bind-requires : tie.Need-bind-requires
 bind-requires c κs =
-    let c₂ = c .before .before in let c₃ = c₂ .before in let c₄ = c₃ .before in let c₅ = c₄ .before in
-    let s = c₅ .before .before .before .before .before .before in let h = s .pre .2 (sym (c₅ .takes-self .ensures) ∙ c₄ .if1 .taken) in
-    (rw (c .slot-at .ensures) (c₃ .is-placeholder .ensures .1 (c₂ .if2 .taken) .1), (h, h))
+    let c₂ = c .before .before in
+    let c₂ = c₂ in let c₃ = c₂ .before in let c₄ = c₃ .before in let c₅ = c₄ .before in let s = c₅ .before .before .before .before .before .before in
+    let h = s .pre .2 (sym (c₅ .takes-self .ensures) ∙ c₄ .if1 .taken) in (
+      rw (c .slot-at .ensures) (c₃ .is-placeholder .ensures .1
+          (c₂ .if2 .taken) .1),
+      (h, h),
+    )
 
 returns : tie.Need-returns
 returns c =

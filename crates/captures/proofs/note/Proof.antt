@@ -22,11 +22,18 @@ returns c =
 
 returns-2 : tie.Need-returns-2
 returns-2 c =
-    let c₄ = c .before .before .before .before in let c₅ = c₄ .before in let c₇ = c₅ .before .before in
-    let a = c₇ .before .before .before .before .args in let t = now (c₅ .part-of .result) in
-    let e : (i : ℕ) → t ≡ textOf (now (a .file)) (elems i (now (a .c))) = λ i. c₅ .part-of .ensures ∙ rw (c₇ .range-of .ensures i) in
-    let p = behind-full (now (a .out)) (a .s .noted) t (c₄ .put .result) (c₄ .put .ensures .0) (c .enum-told .given .1) in
-    (ap length (c₄ .put .ensures .1) ∙ laid-one-length (Noted t) (a .s) (now (a .out)), (λ i. rw (← e i, ← p), λ i. c₄ .put .ensures .1 ∙ rw (e i)))
+    let c₄ = c .before .before .before .before in
+    let c₄ = c₄ in let c₅ = c₄ .before in let c₇ = c₅ .before .before in let a = c₇ .before .before .before .before .args in let t = now
+    (c₅ .part-of .result) in let e : (i : ℕ) → t ≡ textOf (now (a .file)) (elems i (now (a .c))) = λ i. c₅ .part-of .ensures ∙ rw
+    (c₇ .range-of .ensures i) in let p = behind-full (now (a .out)) (a .s .noted) t (c₄ .put .result) (c₄ .put .ensures .0) (c .enum-told .given .1)
+    in (
+      ap length (c₄ .put .ensures .1) ∙ laid-one-length (Noted t) (a .s) (now (a .out)),
+      (
+        λ i. rw (← e i, ← p),
+        λ i. c₄ .put .ensures .1 ∙ rw (e
+            i),
+      ),
+    )
 
 pub note-spec : {M : Type 1} → statement M
 note-spec =

@@ -23,12 +23,12 @@ loop-holds c = (refl, λ i. refl)
 is-asked-requires : tie.Need-is-asked-requires Inv-loop μ-loop
 is-asked-requires c κs =
     let c₉ = c .before .before .before .before .before .before .before .before .before in
-    c₉ .pre .0
+    let c₉ = c₉ in c₉ .pre .0
 
 width-requires : tie.Need-width-requires Inv-loop μ-loop
 width-requires c κs =
     let c₂ = c .before .before in
-    c₂ .loop-test .taken
+    let c₂ = c₂ in c₂ .loop-test .taken
 
 behind-requires : tie.Need-behind-requires Inv-loop μ-loop
 behind-requires c κs = c .width .ensures .0 .1

@@ -26,12 +26,13 @@ abbrev μ-loop : tie.MeasureT-loop
 loop-holds : tie.Need-loop-holds Inv-loop μ-loop
 loop-holds c =
     let c₆ = c .before .before .before .before .before .before in
-    let s = c₆ .args in let w = now (s .part) in let n = length w / 3 in (
+    let c₆ = c₆ in let s = c₆ .args in let w = now (s .part) in let n = length w / 3 in (
       omega arith,
       omega arith,
       refl,
-      rw (add-zero (s .ce)) (last-start (now (s .facts)) (tree (now (s .words))) (now (s .file)) (s .kind) (now (s .name)) (elems (s .ce) w)
-          (elems (s .ce + n) (drop (n * 3) w)) (behind-all (s .ce + n) n w (omega arith))),
+      rw (add-zero (s .ce))
+          (last-start (now (s .facts)) (tree (now (s .words))) (now (s .file)) (s .kind) (now (s .name)) (elems (s .ce) w) (elems (s .ce + n) (drop (n * 3)
+          w)) (behind-all (s .ce + n) n w (omega arith))),
     )
 
 add-is-field : tie.Need-add-is-field Inv-loop μ-loop
@@ -42,12 +43,12 @@ add-is-field c =
 is-field-requires : tie.Need-is-field-requires Inv-loop μ-loop
 is-field-requires c κs =
     let c₈ = c .before .before .before .before .before .before .before .before in
-    c₈ .pre .0
+    let c₈ = c₈ in c₈ .pre .0
 
 width-requires : tie.Need-width-requires Inv-loop μ-loop
 width-requires c κs =
     let c₂ = c .before .before in
-    c₂ .loop-test .taken
+    let c₂ = c₂ in c₂ .loop-test .taken
 
 behind-requires : tie.Need-behind-requires Inv-loop μ-loop
 behind-requires c κs = c .width .ensures .0 .1

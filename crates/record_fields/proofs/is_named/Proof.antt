@@ -33,8 +33,14 @@ returns c =
 loop-less : tie.Need-loop-less Inv-loop μ-loop
 loop-less c =
     let c₃ = c .before .before .before in
-    let q = now (c₃ .before .loop .q) in
-    omega (arith, ap length (c .rest .ensures), rest-shorter q (omega (arith, c₃ .loop-test .taken)))
+    let c₃ = c₃ in let q = now (c₃ .before .loop .q) in omega (
+      arith,
+      ap length (c .rest .ensures),
+      rest-shorter q (omega (
+        arith,
+        c₃ .loop-test .taken,
+      )),
+    )
 
 loop-again : tie.Need-loop-again Inv-loop μ-loop
 loop-again c =

@@ -35,9 +35,9 @@ returns c =
 
 width-requires : tie.Need-width-requires Inv-loop μ-loop
 width-requires c κs =
-    let c₂ = c .before .before in let c₃ = c₂ .before in let c₇ = c₃ .before .before .before .before in
-    let l = c₃ .loop in let q = now (l .q) in
-    leb-true 3 (length q) (and-both (ltb (l .at) (c₇ .args .elements)) (leb 3 (length q)) (c₂ .loop-test .taken) .1)
+    let c₂ = c .before .before in
+    let c₂ = c₂ in let c₃ = c₂ .before in let c₇ = c₃ .before .before .before .before in let l = c₃ .loop in let q = now (l .q) in leb-true 3 (length
+    q) (and-both (ltb (l .at) (c₇ .args .elements)) (leb 3 (length q)) (c₂ .loop-test .taken) .1)
 
 behind-requires : tie.Need-behind-requires Inv-loop μ-loop
 behind-requires c κs = c .width .ensures .0 .1

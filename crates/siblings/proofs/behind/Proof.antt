@@ -12,7 +12,7 @@ use Rattle.siblings.proofs.behind.Tie as tie
 returns : tie.Need-returns
 returns c =
     let c₂ = c .before .before in
-    let s = c₂ .args in (c .tail .ensures, omega (arith, c₂ .pre, ap length (c .tail .ensures), length-drop (s .n * 3) (now (s .c))))
+    let c₂ = c₂ in let s = c₂ .args in (c .tail .ensures, omega (arith, c₂ .pre, ap length (c .tail .ensures), length-drop (s .n * 3) (now (s .c))))
 
 pub behind-spec : {M : Type 1} → statement M
 behind-spec = tie.close (tie.spec (λ c. search needs) (λ c κs. search needs) returns)

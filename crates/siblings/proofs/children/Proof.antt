@@ -12,8 +12,12 @@ use Rattle.siblings.proofs.children.Tie as tie
 
 returns : tie.Need-returns
 returns c =
-    let c₂ = c .before .before in let l = now (c₂ .args .c) in let h = c₂ .pre in
-    (omega (arith, ap length (c .children .ensures), children-within l h), λ i. rw (c .children .ensures) (sym (children-are i l h)))
+    let c₂ = c .before .before in
+    let c₂ = c₂ in let l = now (c₂ .args .c) in let h = c₂ .pre in (
+      omega (arith, ap length (c .children .ensures), children-within l h),
+      λ i. rw
+          (c .children .ensures) (sym (children-are i l h)),
+    )
 
 pub children-spec : {M : Type 1} → statement M
 children-spec = tie.close (tie.spec (λ c κs. search needs) returns)

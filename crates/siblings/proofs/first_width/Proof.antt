@@ -13,8 +13,12 @@ use Rattle.siblings.proofs.first_width.Tie as tie
 
 returns : tie.Need-returns
 returns c =
-    let c₂ = c .before .before in let l = now (c₂ .args .c) in let h = c .if1 .taken in
-    (omega arith, λ i. behind-all (i + 0) 0 l h ∙ sym (ap rest (elems-end i l h)))
+    let c₂ = c .before .before in
+    let c₂ = c₂ in let l = now (c₂ .args .c) in let h = c .if1 .taken in (
+      omega arith,
+      λ i. behind-all (i + 0) 0 l h ∙ sym (ap rest (elems-end i l
+          h)),
+    )
 
 pub first-width-spec : {M : Type 1} → statement M
 first-width-spec = tie.close (tie.spec returns (λ c κs. search needs) (λ c. search needs))

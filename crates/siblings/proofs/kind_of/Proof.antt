@@ -11,7 +11,7 @@ use Rattle.siblings.proofs.kind_of.Tie as tie
 returns : tie.Need-returns
 returns c =
     let c₂ = c .before .before in
-    λ i. rw (elems-end i (now (c₂ .args .c)) (c .if1 .taken))
+    let c₂ = c₂ in λ i. rw (elems-end i (now (c₂ .args .c)) (c .if1 .taken))
 
 returns-2 : tie.Need-returns-2
 returns-2 c =

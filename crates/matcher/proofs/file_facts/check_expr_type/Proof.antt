@@ -21,12 +21,12 @@ abbrev μ-loop : tie.MeasureT-loop
 cast-n : tie.Need-cast-n Inv-loop μ-loop
 cast-n c =
     let c₂ = c .before .before in
-    omega (arith, c₂ .pre .few, length-facts (now (c₂ .args .facts)))
+    let c₂ = c₂ in omega (arith, c₂ .pre .few, length-facts (now (c₂ .args .facts)))
 
 loop-holds : tie.Need-loop-holds Inv-loop μ-loop
 loop-holds c =
     let c₂ = c .before .before in
-    (omega arith, deref-start (now (c₂ .args .facts)) (c₂ .args .element) (c₂ .args .wanted))
+    let c₂ = c₂ in (omega arith, deref-start (now (c₂ .args .facts)) (c₂ .args .element) (c₂ .args .wanted))
 
 find-requires : tie.Need-find-requires Inv-loop μ-loop
 find-requires c κs = search needs
@@ -47,7 +47,7 @@ returns-2 c =
 add-step : tie.Need-add-step Inv-loop μ-loop
 add-step c =
     let c₄ = c .before .before .before .before in
-    let c₈ = c₄ .before .before .before .before in omega (
+    let c₄ = c₄ in let c₈ = c₄ .before .before .before .before in omega (
       arith,
       c₄ .loop-test .taken,
       c₈ .pre .few,

@@ -13,7 +13,7 @@ use Rattle.matcher.proofs.marks.is_placeholder.Tie as tie
 returns : tie.Need-returns
 returns c =
     let c₃ = c .before .before .before in
-    let s = c₃ .args in (λ rule file words facts cx. rw (elems-end (s .pe) (now (s .p)) (c .if1 .taken)), λ h. absurd (false≢true h))
+    let c₃ = c₃ in let s = c₃ .args in (λ rule file words facts cx. rw (elems-end (s .pe) (now (s .p)) (c .if1 .taken)), λ h. absurd (false≢true h))
 
 returns-2 : tie.Need-returns-2
 returns-2 c =

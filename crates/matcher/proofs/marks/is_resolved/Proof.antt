@@ -10,7 +10,7 @@ use Rattle.matcher.proofs.marks.is_resolved.Tie as tie
 returns : tie.Need-returns
 returns c =
     let c₂ = c .before .before in
-    rw (c .word-of .ensures) (resolved-is (mark (now (c₂ .args .marks)) (c₂ .args .element) 1))
+    let c₂ = c₂ in rw (c .word-of .ensures) (resolved-is (mark (now (c₂ .args .marks)) (c₂ .args .element) 1))
 
 pub is-resolved-spec : {M : Type 1} → statement M
 is-resolved-spec = tie.close (tie.spec (λ c κs. search needs) returns)

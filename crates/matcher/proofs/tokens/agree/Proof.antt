@@ -13,7 +13,7 @@ returns c =
 returns-2 : tie.Need-returns-2
 returns-2 c =
     let c₃ = c .before .before .before in
-    rw (ne-eqb (c₃ .args .kind) (c₃ .args .other-kind) (c .if1 .left))
+    let c₃ = c₃ in rw (ne-eqb (c₃ .args .kind) (c₃ .args .other-kind) (c .if1 .left))
 
 pub agree-spec : {M : Type 1} → statement M
 agree-spec = tie.close (tie.spec (λ c κs. search needs) returns returns-2)

@@ -10,11 +10,11 @@ use Rattle.token_trees.proofs.comments.record_ignored_comments.Tie as t
 
 returns : tie.Need-returns
 returns c =
-    let c₂ = c .before .before in let c₄ = c₂ .before .before in let c₅ = c₄ .before in
-    let a = c₅ .before .before .before .before .args in (
+    let c₂ = c .before .before in
+    let c₂ = c₂ in let c₄ = c₂ .before .before in let c₅ = c₄ .before in let a = c₅ .before .before .before .before .args in (
       c₂ .note .ensures .0,
-      λ j left. comment-noted (now (a .file)) (elems j (now (a .c))) left (a .s) (now (a .out)) _ _
-          (sym (c₅ .is-token-in .ensures j) ∙ c₄ .if1 .taken) (c₂ .note .ensures .1 .0 j) (c₂ .note .ensures .1 .1 j),
+      λ j left. comment-noted (now (a .file)) (elems j (now (a .c))) left (a .s) (now (a .out)) _ _ (sym (c₅ .is-token-in .ensures j) ∙ c₄ .if1 .taken)
+          (c₂ .note .ensures .1 .0 j) (c₂ .note .ensures .1 .1 j),
     )
 
 returns-2 : tie.Need-returns-2

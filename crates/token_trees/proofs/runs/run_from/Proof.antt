@@ -28,7 +28,7 @@ behind-requires c κs = c .skip-trivia .ensures .0
 width-requires : tie.Need-width-requires Inv-loop μ-loop
 width-requires c κs =
     let c₇ = c .before .before .before .before .before .before .before in
-    c₇ .pre
+    let c₇ = c₇ in c₇ .pre
 
 behind-requires-2 : tie.Need-behind-requires-2 Inv-loop μ-loop
 behind-requires-2 c κs = c .width .ensures .0 .1
@@ -59,11 +59,16 @@ returns c =
 
 add-n : tie.Need-add-n Inv-loop μ-loop
 add-n c =
-    let c₄ = c .before .before .before .before in let c₉ = c₄ .before .before .before .before .before in
-    let s = c₉ .before .before .before .before .before .before .before .before .before .before in let a = s .args in
-    let l = c₉ .loop in
-    let few = left-few (now (a .rule)) (now (a .file)) (now (a .part)) (now (a .c)) (l .last) (l .at) (l .used) (now (l .ps)) (now (l .cs)) (l .inv) in
-    omega (arith, s .good, c .first-width .ensures .0, c₄ .behind3 .ensures .1, few)
+    let c₄ = c .before .before .before .before in
+    let c₄ = c₄ in let c₉ = c₄ .before .before .before .before .before in let s =
+    c₉ .before .before .before .before .before .before .before .before .before .before in let a = s .args in let l = c₉ .loop in let few = left-few
+    (now (a .rule)) (now (a .file)) (now (a .part)) (now (a .c)) (l .last) (l .at) (l .used) (now (l .ps)) (now (l .cs)) (l .inv) in omega (
+      arith,
+      s .good,
+      c .first-width .ensures .0,
+      c₄ .behind3 .ensures .1,
+      few,
+    )
 
 behind-requires-4 : tie.Need-behind-requires-4 Inv-loop μ-loop
 behind-requires-4 c κs = ⊎-elim (λ w. omega (arith, w .7, w .6 .ensures .0, w .2 .ensures .1)) (λ w. omega (arith, w .1)) (c .if1 .came)
@@ -79,7 +84,7 @@ add-used c =
 width-requires-2 : tie.Need-width-requires-2 Inv-loop μ-loop
 width-requires-2 c κs =
     let c₄ = c .before .before .before .before in
-    c₄ .loop-test .taken
+    let c₄ = c₄ in c₄ .loop-test .taken
 
 behind-requires-5 : tie.Need-behind-requires-5 Inv-loop μ-loop
 behind-requires-5 c κs = c .width2 .ensures .0 .1
@@ -87,10 +92,9 @@ behind-requires-5 c κs = c .width2 .ensures .0 .1
 add-at : tie.Need-add-at Inv-loop μ-loop
 add-at c =
     let c₇ = c .before .before .before .before .before .before .before in
-    let s = c₇ .before .before .before .before .before .before .before .before .before .before in let a = s .args in
-    let l = c₇ .loop in
-    let few = left-few (now (a .rule)) (now (a .file)) (now (a .part)) (now (a .c)) (l .last) (l .at) (l .used) (now (l .ps)) (now (l .cs)) (l .inv) in
-    omega (arith, s .good, c .behind5 .ensures .1, few)
+    let c₇ = c₇ in let s = c₇ .before .before .before .before .before .before .before .before .before .before in let a = s .args in let l = c₇ .loop
+    in let few = left-few (now (a .rule)) (now (a .file)) (now (a .part)) (now (a .c)) (l .last) (l .at) (l .used) (now (l .ps)) (now (l .cs))
+    (l .inv) in omega (arith, s .good, c .behind5 .ensures .1, few)
 
 loop-less : tie.Need-loop-less Inv-loop μ-loop
 loop-less c = omega (arith, c .behind5 .ensures .1, c .before .width2 .ensures .0 .0)

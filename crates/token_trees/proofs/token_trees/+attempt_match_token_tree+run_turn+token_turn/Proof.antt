@@ -95,17 +95,17 @@ tree-μ-loop p c rule file marks pe cx out₀ ps₀ cs₀ at₀ t₀ out ps cs a
 tree-children-requires : (t : ℕ) → tree-lts.Need-children-requires (tree-claims t) (tree-at t) tree.Post tree-Inv-loop tree-μ-loop
 tree-children-requires t c κs =
     let c₆ = c .before .before .before .before .before .before in
-    c₆ .pre .1 .1
+    let c₆ = c₆ in c₆ .pre .1 .1
 
 tree-children-requires-2 : (t : ℕ) → tree-lts.Need-children-requires-2 (tree-claims t) (tree-at t) tree.Post tree-Inv-loop tree-μ-loop
 tree-children-requires-2 t c κs =
     let c₇ = c .before .before .before .before .before .before .before in
-    c₇ .pre .1 .2
+    let c₇ = c₇ in c₇ .pre .1 .2
 
 tree-add-at : (t : ℕ) → tree-lts.Need-add-at (tree-claims t) (tree-at t) tree.Post tree-Inv-loop tree-μ-loop
 tree-add-at t c =
     let c₈ = c .before .before .before .before .before .before .before .before in
-    omega (arith, c₈ .pre .1 .0)
+    let c₈ = c₈ in omega (arith, c₈ .pre .1 .0)
 
 tree-loop-holds : (t : ℕ) → tree-lts.Need-loop-holds (tree-claims t) (tree-at t) tree.Post tree-Inv-loop tree-μ-loop
 tree-loop-holds t c =
@@ -120,41 +120,54 @@ tree-token-turn-requires t c κs =
 tree-behind-requires : (t : ℕ) → tree-lts.Need-behind-requires (tree-claims t) (tree-at t) tree.Post tree-Inv-loop tree-μ-loop
 tree-behind-requires t c κs =
     let c₃ = c .before .before .before in
-    c₃ .token-turn .ensures .0 .1 .pattern
+    let c₃ = c₃ in c₃ .token-turn .ensures .0 .1 .pattern
 
 tree-behind-requires-2 : (t : ℕ) → tree-lts.Need-behind-requires-2 (tree-claims t) (tree-at t) tree.Post tree-Inv-loop tree-μ-loop
 tree-behind-requires-2 t c κs =
     let c₄ = c .before .before .before .before in
-    c₄ .token-turn .ensures .0 .1 .code
+    let c₄ = c₄ in c₄ .token-turn .ensures .0 .1 .code
 
 tree-add-at-2 : (t : ℕ) → tree-lts.Need-add-at-2 (tree-claims t) (tree-at t) tree.Post tree-Inv-loop tree-μ-loop
 tree-add-at-2 t c =
-    let c₆ = c .before .before .before .before .before .before in let c₉ = c₆ .before .before .before in
-    omega (arith, c₉ .loop .inv .0, c₆ .token-turn .ensures .0 .1 .pattern)
+    let c₆ = c .before .before .before .before .before .before in
+    let c₆ = c₆ in let c₉ = c₆ .before .before .before in omega (arith, c₉ .loop .inv .0, c₆ .token-turn .ensures .0 .1 .pattern)
 
 tree-loop-less : (t : ℕ) → tree-lts.Need-loop-less (tree-claims t) (tree-at t) tree.Post tree-Inv-loop tree-μ-loop
 tree-loop-less t c =
-    let c₂ = c .before .before in let c₄ = c₂ .before .before in let c₇ = c₄ .before .before .before in
-    omega (arith, c₂ .behind2 .ensures .1, c₇ .token-turn .ensures .0 .1 .falls (c₄ .if1 .taken))
+    let c₂ = c .before .before in
+    let c₂ = c₂ in let c₄ = c₂ .before .before in let c₇ = c₄ .before .before .before in omega (
+      arith,
+      c₂ .behind2 .ensures .1,
+      c₇ .token-turn .ensures .0 .1 .falls (c₄ .if1 .taken),
+    )
 
 tree-loop-again : (t : ℕ) → tree-lts.Need-loop-again (tree-claims t) (tree-at t) tree.Post tree-Inv-loop tree-μ-loop
 tree-loop-again t c =
-    let c₂ = c .before .before in let c₃ = c₂ .before in let c₄ = c₃ .before in let c₇ = c₄ .before .before .before in
-    let c₁₀ = c₇ .before .before .before in
-    let l = c₁₀ .loop in let u = c₇ .token-turn in let y = c₃ .behind in let z = c₂ .behind2 in (
+    let c₂ = c .before .before in
+    let c₂ = c₂ in let c₃ = c₂ .before in let c₄ = c₃ .before in let c₇ = c₄ .before .before .before in let c₁₀ = c₇ .before .before .before in let l
+    = c₁₀ .loop in let u = c₇ .token-turn in let y = c₃ .behind in let z = c₂ .behind2 in (
       omega (arith, l .inv .0, y .ensures .1),
-      omega (arith, l .inv .1, y .ensures .1),
+      omega (
+        arith,
+        l .inv .1,
+        y .ensures .1,
+      ),
       omega (arith, l .inv .2, z .ensures .1),
       u .ensures .0 .0 ∙ l .inv .3,
-      λ words facts ce.
-          let k = l .inv .4 words facts ce in
-          (k .0 + u .result .c, λ a end g. k .1 a end (u .ensures .1 words facts (k .0) .goes (c₄ .if1 .taken) a end (rw (y .ensures .0, z .ensures .0) at g))),
+      λ words facts ce. let k = l .inv .4 words facts
+          ce in (
+            k .0 + u .result .c,
+            λ a end g. k .1 a end (u .ensures .1 words facts (k .0) .goes (c₄ .if1 .taken) a end (rw (
+              y .ensures .0,
+              z .ensures .0,
+            ) at g)),
+          ),
     )
 
 tree-same-length : (t : ℕ) → tree-lts.Need-same-length (tree-claims t) (tree-at t) tree.Post tree-Inv-loop tree-μ-loop
 tree-same-length t c =
-    let c₄ = c .before .before .before .before in let c₇ = c₄ .before .before .before in
-    c₄ .token-turn .ensures .0 .0 ∙ c₇ .loop .inv .3
+    let c₄ = c .before .before .before .before in
+    let c₄ = c₄ in let c₇ = c₄ .before .before .before in c₄ .token-turn .ensures .0 .0 ∙ c₇ .loop .inv .3
 
 tree-returns : (t : ℕ) → tree-lts.Need-returns (tree-claims t) (tree-at t) tree.Post tree-Inv-loop tree-μ-loop
 tree-returns t c =
@@ -176,7 +189,7 @@ tree-behind-requires-3 t c κs =
 tree-same-length-2 : (t : ℕ) → tree-lts.Need-same-length-2 (tree-claims t) (tree-at t) tree.Post tree-Inv-loop tree-μ-loop
 tree-same-length-2 t c =
     let c₄ = c .before .before .before .before in
-    c₄ .loop .inv .3
+    let c₄ = c₄ in c₄ .loop .inv .3
 
 tree-returns-2 : (t : ℕ) → tree-lts.Need-returns-2 (tree-claims t) (tree-at t) tree.Post tree-Inv-loop tree-μ-loop
 tree-returns-2 t c =
@@ -194,7 +207,7 @@ tree-returns-2 t c =
 tree-same-length-3 : (t : ℕ) → tree-lts.Need-same-length-3 (tree-claims t) (tree-at t) tree.Post tree-Inv-loop tree-μ-loop
 tree-same-length-3 t c =
     let c₅ = c .before .before .before .before .before in
-    c₅ .loop .inv .3
+    let c₅ = c₅ in c₅ .loop .inv .3
 
 tree-returns-3 : (t : ℕ) → tree-lts.Need-returns-3 (tree-claims t) (tree-at t) tree.Post tree-Inv-loop tree-μ-loop
 tree-returns-3 t c =
@@ -254,7 +267,7 @@ module _ (t : ℕ) (c : run-lts.After-slot-at (run-claims t) (run-at t) run.Post
 run-width-requires : (t : ℕ) → run-lts.Need-width-requires (run-claims t) (run-at t) run.Post
 run-width-requires t c κs =
     let c₆ = c .before .before .before .before .before .before in
-    c₆ .pre .1 .1 .0
+    let c₆ = c₆ in c₆ .pre .1 .1 .0
 
 run-behind-requires : (t : ℕ) → run-lts.Need-behind-requires (run-claims t) (run-at t) run.Post
 run-behind-requires t c κs =
@@ -263,7 +276,7 @@ run-behind-requires t c κs =
 run-run-from-requires : (t : ℕ) → run-lts.Need-run-from-requires (run-claims t) (run-at t) run.Post
 run-run-from-requires t c κs =
     let c₈ = c .before .before .before .before .before .before .before .before in
-    c₈ .pre .1 .0 .1
+    let c₈ = c₈ in c₈ .pre .1 .0 .1
 
 run-behind-requires-2 : (t : ℕ) → run-lts.Need-behind-requires-2 (run-claims t) (run-at t) run.Post
 run-behind-requires-2 t c κs =
@@ -283,17 +296,17 @@ run-behind-requires-3 t c κs =
 run-behind-requires-4 : (t : ℕ) → run-lts.Need-behind-requires-4 (run-claims t) (run-at t) run.Post
 run-behind-requires-4 t c κs =
     let c₄ = c .before .before .before .before in
-    omega (arith, c₄ .run-from .ensures .0 .2)
+    let c₄ = c₄ in omega (arith, c₄ .run-from .ensures .0 .2)
 
 run-behind-requires-5 : (t : ℕ) → run-lts.Need-behind-requires-5 (run-claims t) (run-at t) run.Post
 run-behind-requires-5 t c κs =
     let c₅ = c .before .before .before .before .before in
-    c₅ .run-from .ensures .0 .1
+    let c₅ = c₅ in c₅ .run-from .ensures .0 .1
 
 run-slot-at-requires : (t : ℕ) → run-lts.Need-slot-at-requires (run-claims t) (run-at t) run.Post
 run-slot-at-requires t c κs =
     let c₁₅ = c .before .before .before .before .before .before .before .before .before .before .before .before .before .before .before in
-    omega (arith, c₁₅ .pre .1 .0 .0)
+    let c₁₅ = c₁₅ in omega (arith, c₁₅ .pre .1 .0 .0)
 
 run-add-attempt-match-token-tree : (t : ℕ) → run-lts.Need-add-attempt-match-token-tree (run-claims t) (run-at t) run.Post
 run-add-attempt-match-token-tree t c =
@@ -318,14 +331,16 @@ run-attempt-match-token-tree-requires t c κs =
 run-add-t29 : (t : ℕ) → run-lts.Need-add-t29 (run-claims t) (run-at t) run.Post
 run-add-t29 t c =
     let c₇ = c .before .before .before .before .before .before .before in
-    let c₂₃ = c₇ .before .before .before .before .before .before .before .before .before .before .before .before .before .before .before .before in
-    omega (arith, run-within t c₇, c₂₃ .pre .1 .0 .0)
+    let c₇ = c₇ in let c₂₃ =
+    c₇ .before .before .before .before .before .before .before .before .before .before .before .before .before .before .before .before in omega
+    (arith, run-within t c₇, c₂₃ .pre .1 .0 .0)
 
 run-add-t31 : (t : ℕ) → run-lts.Need-add-t31 (run-claims t) (run-at t) run.Post
 run-add-t31 t c =
     let c₈ = c .before .before .before .before .before .before .before .before in
-    let c₂₄ = c₈ .before .before .before .before .before .before .before .before .before .before .before .before .before .before .before .before in
-    omega (arith, run-within t c₈, c₂₄ .pre .1 .0 .0, c .first-width .ensures .0)
+    let c₈ = c₈ in let c₂₄ =
+    c₈ .before .before .before .before .before .before .before .before .before .before .before .before .before .before .before .before in omega
+    (arith, run-within t c₈, c₂₄ .pre .1 .0 .0, c .first-width .ensures .0)
 
 run-add-t33 : (t : ℕ) → run-lts.Need-add-t33 (run-claims t) (run-at t) run.Post
 run-add-t33 t c =
@@ -335,31 +350,36 @@ run-add-t33 t c =
 
 run-bind-requires : (t : ℕ) → run-lts.Need-bind-requires (run-claims t) (run-at t) run.Post
 run-bind-requires t c κs =
-    let c₁₀ = c .before .before .before .before .before .before .before .before .before .before in let c₁₂ = c₁₀ .before .before in
-    let c₁₇ = c₁₂ .before .before .before .before .before in
-    let c₂₆ = c₁₇ .before .before .before .before .before .before .before .before .before in
-    (rw (c₁₀ .slot-at .ensures) (c₂₆ .pre .1 .1 .1), (c₂₆ .pre .1 .0 .1, omega (arith, c₁₂ .behind4 .ensures .1, c₁₇ .run-from .ensures .0 .2)))
+    let c₁₀ = c .before .before .before .before .before .before .before .before .before .before in
+    let c₁₀ = c₁₀ in let c₁₂ = c₁₀ .before .before in let c₁₇ = c₁₂ .before .before .before .before .before in let c₂₆ =
+    c₁₇ .before .before .before .before .before .before .before .before .before in (
+      rw (c₁₀ .slot-at .ensures) (c₂₆ .pre .1 .1 .1),
+      (c₂₆ .pre .1 .0 .1, omega (arith, c₁₂ .behind4 .ensures .1, c₁₇ .run-from .ensures .0 .2)),
+    )
 
 run-same-length : (t : ℕ) → run-lts.Need-same-length (run-claims t) (run-at t) run.Post
 run-same-length t c =
     let c₈ = c .before .before .before .before .before .before .before .before in
-    c₈ .attempt-match-token-tree .ensures .0
+    let c₈ = c₈ in c₈ .attempt-match-token-tree .ensures .0
 
 run-returns : (t : ℕ) → run-lts.Need-returns (run-claims t) (run-at t) run.Post
 run-returns t c =
-    let c₂ = c .before .before in let c₃ = c₂ .before in let c₅ = c₃ .before .before in let c₈ = c₅ .before .before .before in
-    let c₁₀ = c₈ .before .before in let c₁₁ = c₁₀ .before in
-    let c₂₇ = c₁₁ .before .before .before .before .before .before .before .before .before .before .before .before .before .before .before .before in
-    let a = c₂₇ .args in let k = run-within t c₁₁ in let f = c₃ .first-width in let g = c₂ .first-width2 in let r = c₈ .attempt-match-token-tree in (
+    let c₂ = c .before .before in
+    let c₂ = c₂ in let c₃ = c₂ .before in let c₅ = c₃ .before .before in let c₈ = c₅ .before .before .before in let c₁₀ = c₈ .before .before in let
+    c₁₁ = c₁₀ .before in let c₂₇ =
+    c₁₁ .before .before .before .before .before .before .before .before .before .before .before .before .before .before .before .before in let a =
+    c₂₇ .args in let k = run-within t c₁₁ in let f = c₃ .first-width in let g = c₂ .first-width2 in let r = c₈ .attempt-match-token-tree in (
       (r .ensures .0, steps-on (now (a .p)) (now (a .c)) _ _ _ (omega (arith, k, f .ensures .0)) (omega (arith, k, g .ensures .0)) (omega (arith, k))),
-      λ words facts ce. reach-tree (matcherOf (now (a .rule)) (now (a .file)) (now (a .marks)) words facts (a .cx)) (a .pe) (now (a .p)) ce (now (a .c)) (a .s) (now (a .out)) _ _ _ _ _ _ (run-known t c₁₁ ce) k (c₁₁ .slot-at .result) (c₁₁ .slot-at .ensures)
-          (f .result) (f .ensures .0) (f .ensures .1) (g .result) (g .ensures .0) (g .ensures .1) (c₁₀ .if1 .taken) (r .result) _ (r .ensures .1 words facts _) (c₅ .if2 .taken) (c .bind .result) (c .bind .ensures),
+      λ words facts ce. reach-tree (matcherOf (now (a .rule)) (now (a .file)) (now (a .marks)) words facts (a .cx)) (a .pe) (now (a .p)) ce (now
+          (a .c)) (a .s) (now (a .out)) _ _ _ _ _ _ (run-known t c₁₁ ce) k (c₁₁ .slot-at .result) (c₁₁ .slot-at .ensures) (f .result) (f .ensures .0)
+          (f .ensures .1) (g .result) (g .ensures .0) (g .ensures .1) (c₁₀ .if1 .taken) (r .result) _ (r .ensures .1 words facts _) (c₅ .if2 .taken)
+          (c .bind .result) (c .bind .ensures),
     )
 
 run-same-length-2 : (t : ℕ) → run-lts.Need-same-length-2 (run-claims t) (run-at t) run.Post
 run-same-length-2 t c =
     let c₄ = c .before .before .before .before in
-    c₄ .attempt-match-token-tree .ensures .0
+    let c₄ = c₄ in c₄ .attempt-match-token-tree .ensures .0
 
 run-returns-2 : (t : ℕ) → run-lts.Need-returns-2 (run-claims t) (run-at t) run.Post
 run-returns-2 t c =
@@ -380,14 +400,16 @@ run-bind-requires-2 t c κs =
 run-add-t35 : (t : ℕ) → run-lts.Need-add-t35 (run-claims t) (run-at t) run.Post
 run-add-t35 t c =
     let c₃ = c .before .before .before in
-    let c₁₉ = c₃ .before .before .before .before .before .before .before .before .before .before .before .before .before .before .before .before in
-    omega (arith, run-within t c₃, c₁₉ .pre .1 .0 .0)
+    let c₃ = c₃ in let c₁₉ =
+    c₃ .before .before .before .before .before .before .before .before .before .before .before .before .before .before .before .before in omega
+    (arith, run-within t c₃, c₁₉ .pre .1 .0 .0)
 
 run-add-t37 : (t : ℕ) → run-lts.Need-add-t37 (run-claims t) (run-at t) run.Post
 run-add-t37 t c =
     let c₄ = c .before .before .before .before in
-    let c₂₀ = c₄ .before .before .before .before .before .before .before .before .before .before .before .before .before .before .before .before in
-    omega (arith, run-within t c₄, c₂₀ .pre .1 .0 .0, c .first-width3 .ensures .0)
+    let c₄ = c₄ in let c₂₀ =
+    c₄ .before .before .before .before .before .before .before .before .before .before .before .before .before .before .before .before in omega
+    (arith, run-within t c₄, c₂₀ .pre .1 .0 .0, c .first-width3 .ensures .0)
 
 run-add-t39 : (t : ℕ) → run-lts.Need-add-t39 (run-claims t) (run-at t) run.Post
 run-add-t39 t c =
@@ -408,8 +430,9 @@ run-returns-3 t c =
 run-add-t21 : (t : ℕ) → run-lts.Need-add-t21 (run-claims t) (run-at t) run.Post
 run-add-t21 t c =
     let c₄ = c .before .before .before .before in
-    let c₂₀ = c₄ .before .before .before .before .before .before .before .before .before .before .before .before .before .before .before .before in
-    omega (arith, run-within t c₄, c₂₀ .pre .1 .0 .0)
+    let c₄ = c₄ in let c₂₀ =
+    c₄ .before .before .before .before .before .before .before .before .before .before .before .before .before .before .before .before in omega
+    (arith, run-within t c₄, c₂₀ .pre .1 .0 .0)
 
 run-returns-4 : (t : ℕ) → run-lts.Need-returns-4 (run-claims t) (run-at t) run.Post
 run-returns-4 t c =
@@ -423,8 +446,13 @@ run-returns-4 t c =
 
 turn-next : (t : ℕ) (c : turn-lts.After-behind (turn-claims t) (turn-at t) turn.Post) → Next (c .before .before .before .before .before .before .before .before .args .pe) (now (c .before .before .before .before .before .before .before .before .args .p)) (c .before .skip-trivia .result) (now (c .behind .result))
 turn-next t c =
-    let a = c .before .before .before .before .before .before .before .before .args in let k = c .before .skip-trivia in
-    record { is = c .behind .ensures .0; few = c .behind .ensures .1; first = ap (elems (a .pe + k .result)) (c .behind .ensures .0) ∙ k .ensures .1 (a .pe) }
+    let c₁ = c .before in let c₈ = c₁ .before .before .before .before .before .before .before in
+    let a = c₈ .args in let k = c₁ .skip-trivia in record {
+      is = c .behind .ensures .0;
+      few = c .behind .ensures .1;
+      first = ap (elems (a .pe +
+          k .result)) (c .behind .ensures .0) ∙ k .ensures .1 (a .pe);
+    }
 
 turn-behind-requires : (t : ℕ) → turn-lts.Need-behind-requires (turn-claims t) (turn-at t) turn.Post
 turn-behind-requires t c κs =
@@ -442,8 +470,8 @@ turn-is-placeholder-requires t c κs =
 
 turn-add-run-turn : (t : ℕ) → turn-lts.Need-add-run-turn (turn-claims t) (turn-at t) turn.Post
 turn-add-run-turn t c =
-    let c₃ = c .before .before .before in let c₁₀ = c₃ .before .before .before .before .before .before .before in
-    omega (arith, c₃ .skip-trivia .ensures .0, c₁₀ .pre .1 .0)
+    let c₃ = c .before .before .before in
+    let c₃ = c₃ in let c₁₀ = c₃ .before .before .before .before .before .before .before in omega (arith, c₃ .skip-trivia .ensures .0, c₁₀ .pre .1 .0)
 
 turn-run-turn-requires : (t : ℕ) → turn-lts.Need-run-turn-requires (turn-claims t) (turn-at t) turn.Post
 turn-run-turn-requires t c κs =
@@ -454,28 +482,34 @@ turn-run-turn-requires t c κs =
 
 turn-add-t26 : (t : ℕ) → turn-lts.Need-add-t26 (turn-claims t) (turn-at t) turn.Post
 turn-add-t26 t c =
-    let c₅ = c .before .before .before .before .before in let c₉ = c₅ .before .before .before .before in
-    let c₁₇ = c₉ .before .before .before .before .before .before .before .before in
+    let c₅ = c .before .before .before .before .before in
+    let c₅ = c₅ in let c₉ = c₅ .before .before .before .before in let c₁₇ = c₉ .before .before .before .before .before .before .before .before in
     omega (arith, c₅ .run-turn .ensures .0 .1 .pattern, c₉ .behind .ensures .1, c₁₇ .pre .1 .0)
 
 turn-same-length : (t : ℕ) → turn-lts.Need-same-length (turn-claims t) (turn-at t) turn.Post
 turn-same-length t c =
     let c₅ = c .before .before .before .before .before in
-    c₅ .run-turn .ensures .0 .0
+    let c₅ = c₅ in c₅ .run-turn .ensures .0 .0
 
 turn-returns : (t : ℕ) → turn-lts.Need-returns (turn-claims t) (turn-at t) turn.Post
 turn-returns t c =
-    let c₂ = c .before .before in let c₅ = c₂ .before .before .before in let c₇ = c₅ .before .before in let c₈ = c₇ .before in
-    let c₉ = c₈ .before in let c₁₇ = c₉ .before .before .before .before .before .before .before .before in
-    let a = c₁₇ .args in let u = c₅ .run-turn in let y = c₉ .behind in (
-      (u .ensures .0 .0, steps-on (now (a .p)) (now (a .c)) _ _ _ (omega (arith, u .ensures .0 .1 .pattern, y .ensures .1)) (u .ensures .0 .1 .code) (u .ensures .0 .1 .falls (c₂ .if2 .taken))),
-      λ words facts ce. turn-run (matcherOf (now (a .rule)) (now (a .file)) (now (a .marks)) words facts (a .cx)) (a .pe) (now (a .p)) ce (now (a .c)) (a .s) (now (a .out)) _ _ (turn-next t c₉) (c₁₇ .pre .1 .1) (sym (c₈ .is-placeholder .ensures .0 (now (a .rule)) (now (a .file)) words facts (a .cx)) ∙ c₇ .if1 .taken) (u .result) _ (u .ensures .1 words facts ce) (c₂ .if2 .taken),
+    let c₂ = c .before .before in
+    let c₂ = c₂ in let c₅ = c₂ .before .before .before in let c₇ = c₅ .before .before in let c₈ = c₇ .before in let c₉ = c₈ .before in let c₁₇ =
+    c₉ .before .before .before .before .before .before .before .before in let a = c₁₇ .args in let u = c₅ .run-turn in let y = c₉ .behind in (
+      (
+        u .ensures .0 .0,
+        steps-on (now (a .p)) (now (a .c)) _ _ _ (omega (arith, u .ensures .0 .1 .pattern, y .ensures .1)) (u .ensures .0 .1 .code)
+            (u .ensures .0 .1 .falls (c₂ .if2 .taken)),
+      ),
+      λ words facts ce. turn-run (matcherOf (now (a .rule)) (now (a .file)) (now (a .marks)) words facts
+          (a .cx)) (a .pe) (now (a .p)) ce (now (a .c)) (a .s) (now (a .out)) _ _ (turn-next t c₉) (c₁₇ .pre .1 .1) (sym (c₈ .is-placeholder .ensures .0
+          (now (a .rule)) (now (a .file)) words facts (a .cx)) ∙ c₇ .if1 .taken) (u .result) _ (u .ensures .1 words facts ce) (c₂ .if2 .taken),
     )
 
 turn-same-length-2 : (t : ℕ) → turn-lts.Need-same-length-2 (turn-claims t) (turn-at t) turn.Post
 turn-same-length-2 t c =
     let c₄ = c .before .before .before .before in
-    c₄ .run-turn .ensures .0 .0
+    let c₄ = c₄ in c₄ .run-turn .ensures .0 .0
 
 turn-returns-2 : (t : ℕ) → turn-lts.Need-returns-2 (turn-claims t) (turn-at t) turn.Post
 turn-returns-2 t c =
@@ -489,29 +523,40 @@ turn-returns-2 t c =
 turn-width-requires : (t : ℕ) → turn-lts.Need-width-requires (turn-claims t) (turn-at t) turn.Post
 turn-width-requires t c κs =
     let c₁₀ = c .before .before .before .before .before .before .before .before .before .before in
-    c₁₀ .pre .1 .1
+    let c₁₀ = c₁₀ in c₁₀ .pre .1 .1
 
 turn-same-length-3 : (t : ℕ) → turn-lts.Need-same-length-3 (turn-claims t) (turn-at t) turn.Post
 turn-same-length-3 t c =
     let c₂ = c .before .before in
-    c₂ .record-ignored-comments .ensures .0
+    let c₂ = c₂ in c₂ .record-ignored-comments .ensures .0
 
 turn-returns-3 : (t : ℕ) → turn-lts.Need-returns-3 (turn-claims t) (turn-at t) turn.Post
 turn-returns-3 t c =
-    let c₂ = c .before .before in let c₄ = c₂ .before .before in let c₅ = c₄ .before in let c₆ = c₅ .before in let c₇ = c₆ .before in
-    let c₈ = c₇ .before in let c₉ = c₈ .before in let c₁₀ = c₉ .before in
-    let c₁₇ = c₁₀ .before .before .before .before .before .before .before in
-    let a = c₁₇ .args in let r = c₂ .record-ignored-comments in let n = c₆ .width in (
-      (r .ensures .0, steps-on (now (a .p)) (now (a .c)) _ _ _ (c₁₀ .skip-trivia .ensures .0) (n .ensures .0 .1) (n .ensures .0 .0)),
-      λ words facts ce. turn-trivia (matcherOf (now (a .rule)) (now (a .file)) (now (a .marks)) words facts (a .cx)) (a .pe) (now (a .p)) ce (now (a .c)) (a .s) (now (a .out)) _ _ (turn-next t c₉) (c₁₇ .pre .1 .1) (sym (c₈ .is-placeholder .ensures .0 (now (a .rule)) (now (a .file)) words facts (a .cx)) ∙ c₇ .if1 .left) (n .result) (n .ensures .0 .0) (n .ensures .0 .1) (n .ensures .1 ce)
+    let c₂ = c .before .before in
+    let c₂ = c₂ in let c₄ = c₂ .before .before in let c₅ = c₄ .before in let c₆ = c₅ .before in let c₇ = c₆ .before in let c₈ = c₇ .before in let c₉
+    = c₈ .before in let c₁₀ = c₉ .before in let c₁₇ = c₁₀ .before .before .before .before .before .before .before in let a = c₁₇ .args in let r =
+    c₂ .record-ignored-comments in let n = c₆ .width in (
+      (
+        r .ensures .0,
+        steps-on (now (a .p)) (now (a .c)) _ _ _ (c₁₀ .skip-trivia .ensures .0)
+            (n .ensures .0 .1) (n .ensures .0 .0),
+      ),
+      λ words facts ce. turn-trivia (matcherOf (now (a .rule)) (now (a .file)) (now (a .marks)) words facts
+          (a .cx)) (a .pe) (now (a .p)) ce (now (a .c)) (a .s) (now (a .out)) _ _ (turn-next t c₉) (c₁₇ .pre .1 .1) (sym (c₈ .is-placeholder .ensures .0
+          (now (a .rule)) (now (a .file)) words facts (a .cx)) ∙ c₇ .if1 .left) (n .result) (n .ensures .0 .0) (n .ensures .0 .1) (n .ensures .1 ce)
           (r .result) _ (sym (c₅ .is-token-in .ensures ce) ∙ c₄ .if3 .taken) (r .ensures .1 ce),
     )
 
 turn-add-t32 : (t : ℕ) → turn-lts.Need-add-t32 (turn-claims t) (turn-at t) turn.Post
 turn-add-t32 t c =
-    let c₂ = c .before .before in let c₁₁ = c₂ .before .before .before .before .before .before .before .before .before in
-    let c₁₉ = c₁₁ .before .before .before .before .before .before .before .before in
-    omega (arith, c₂ .attempt-match-token .ensures .0, c₁₁ .behind .ensures .1, c₁₉ .pre .1 .0)
+    let c₂ = c .before .before in
+    let c₂ = c₂ in let c₁₁ = c₂ .before .before .before .before .before .before .before .before .before in let c₁₉ =
+    c₁₁ .before .before .before .before .before .before .before .before in omega (
+      arith,
+      c₂ .attempt-match-token .ensures .0,
+      c₁₁ .behind .ensures .1,
+      c₁₉ .pre .1 .0,
+    )
 
 turn-returns-4 : (t : ℕ) → turn-lts.Need-returns-4 (turn-claims t) (turn-at t) turn.Post
 turn-returns-4 t c =
@@ -539,8 +584,11 @@ turn-returns-5 t c =
 turn-add-attempt-match-token-tree : (t : ℕ) → turn-lts.Need-add-attempt-match-token-tree (turn-claims t) (turn-at t) turn.Post
 turn-add-attempt-match-token-tree t c =
     let c₁₀ = c .before .before .before .before .before .before .before .before .before .before in
-    let c₁₇ = c₁₀ .before .before .before .before .before .before .before in
-    omega (arith, c₁₀ .skip-trivia .ensures .0, c₁₇ .pre .1 .0)
+    let c₁₀ = c₁₀ in let c₁₇ = c₁₀ .before .before .before .before .before .before .before in omega (
+      arith,
+      c₁₀ .skip-trivia .ensures .0,
+      c₁₇ .pre .1 .0,
+    )
 
 turn-attempt-match-token-tree-requires : (t : ℕ) → turn-lts.Need-attempt-match-token-tree-requires (turn-claims t) (turn-at t) turn.Post
 turn-attempt-match-token-tree-requires t c κs =
@@ -552,31 +600,42 @@ turn-attempt-match-token-tree-requires t c κs =
 turn-add-t39 : (t : ℕ) → turn-lts.Need-add-t39 (turn-claims t) (turn-at t) turn.Post
 turn-add-t39 t c =
     let c₁₆ = c .before .before .before .before .before .before .before .before .before .before .before .before .before .before .before .before in
-    let c₂₄ = c₁₆ .before .before .before .before .before .before .before .before in
-    omega (arith, c .first-width .ensures .0, c₁₆ .behind .ensures .1, c₂₄ .pre .1 .0)
+    let c₁₆ = c₁₆ in let c₂₄ = c₁₆ .before .before .before .before .before .before .before .before in omega (
+      arith,
+      c .first-width .ensures .0,
+      c₁₆ .behind .ensures .1,
+      c₂₄ .pre .1 .0,
+    )
 
 turn-same-length-4 : (t : ℕ) → turn-lts.Need-same-length-4 (turn-claims t) (turn-at t) turn.Post
 turn-same-length-4 t c =
     let c₅ = c .before .before .before .before .before in
-    c₅ .attempt-match-token-tree .ensures .0
+    let c₅ = c₅ in c₅ .attempt-match-token-tree .ensures .0
 
 turn-returns-6 : (t : ℕ) → turn-lts.Need-returns-6 (turn-claims t) (turn-at t) turn.Post
 turn-returns-6 t c =
-    let c₂ = c .before .before in let c₅ = c₂ .before .before .before in let c₇ = c₅ .before .before in let c₈ = c₇ .before in
-    let c₉ = c₈ .before in let c₁₀ = c₉ .before in let c₁₁ = c₁₀ .before in let c₁₂ = c₁₁ .before in let c₁₃ = c₁₂ .before in
-    let c₁₄ = c₁₃ .before in let c₁₅ = c₁₄ .before in let c₁₆ = c₁₅ .before in
-    let c₂₄ = c₁₆ .before .before .before .before .before .before .before .before in
-    let a = c₂₄ .args in let r = c₅ .attempt-match-token-tree in let n = c₁₃ .width in let f = c .first-width in (
-      (r .ensures .0, steps-on (now (a .p)) (now (a .c)) _ _ _ (omega (arith, f .ensures .0, c₁₆ .behind .ensures .1)) (n .ensures .0 .1) (n .ensures .0 .0)),
-      λ words facts ce. turn-node (matcherOf (now (a .rule)) (now (a .file)) (now (a .marks)) words facts (a .cx)) (a .pe) (now (a .p)) ce (now (a .c)) (a .s) (now (a .out)) _ _ (turn-next t c₁₆) (c₂₄ .pre .1 .1) (sym (c₁₅ .is-placeholder .ensures .0 (now (a .rule)) (now (a .file)) words facts (a .cx)) ∙ c₁₄ .if1 .left) (n .result) (n .ensures .0 .0) (n .ensures .0 .1) (n .ensures .1 ce)
-          (f .result) (f .ensures .0) (f .ensures .1 _) (sym (c₁₂ .is-token-in .ensures ce) ∙ c₁₁ .if3 .left) (sym (c₁₀ .is-token-in2 .ensures ce) ∙ c₉ .if4 .left)
-          (sym (c₈ .is-node-in .ensures _) ∙ c₇ .if6 .taken) (r .result) _ (r .ensures .1 words facts ce) (c₂ .if7 .taken),
+    let c₂ = c .before .before in
+    let c₂ = c₂ in let c₅ = c₂ .before .before .before in let c₇ = c₅ .before .before in let c₈ = c₇ .before in let c₉ = c₈ .before in let c₁₀ =
+    c₉ .before in let c₁₁ = c₁₀ .before in let c₁₂ = c₁₁ .before in let c₁₃ = c₁₂ .before in let c₁₄ = c₁₃ .before in let c₁₅ = c₁₄ .before in let
+    c₁₆ = c₁₅ .before in let c₂₄ = c₁₆ .before .before .before .before .before .before .before .before in let a = c₂₄ .args in let r =
+    c₅ .attempt-match-token-tree in let n = c₁₃ .width in let f = c .first-width in (
+      (
+        r .ensures .0,
+        steps-on (now (a .p)) (now (a .c)) _ _ _ (omega
+            (arith, f .ensures .0, c₁₆ .behind .ensures .1)) (n .ensures .0 .1) (n .ensures .0 .0),
+      ),
+      λ words facts ce. turn-node (matcherOf (now (a .rule))
+          (now (a .file)) (now (a .marks)) words facts (a .cx)) (a .pe) (now (a .p)) ce (now (a .c)) (a .s) (now (a .out)) _ _ (turn-next t c₁₆)
+          (c₂₄ .pre .1 .1) (sym (c₁₅ .is-placeholder .ensures .0 (now (a .rule)) (now (a .file)) words facts (a .cx)) ∙ c₁₄ .if1 .left) (n .result)
+          (n .ensures .0 .0) (n .ensures .0 .1) (n .ensures .1 ce) (f .result) (f .ensures .0) (f .ensures .1 _) (sym (c₁₂ .is-token-in .ensures ce) ∙
+          c₁₁ .if3 .left) (sym (c₁₀ .is-token-in2 .ensures ce) ∙ c₉ .if4 .left) (sym (c₈ .is-node-in .ensures _) ∙ c₇ .if6 .taken) (r .result) _
+          (r .ensures .1 words facts ce) (c₂ .if7 .taken),
     )
 
 turn-same-length-5 : (t : ℕ) → turn-lts.Need-same-length-5 (turn-claims t) (turn-at t) turn.Post
 turn-same-length-5 t c =
     let c₄ = c .before .before .before .before in
-    c₄ .attempt-match-token-tree .ensures .0
+    let c₄ = c₄ in c₄ .attempt-match-token-tree .ensures .0
 
 turn-returns-7 : (t : ℕ) → turn-lts.Need-returns-7 (turn-claims t) (turn-at t) turn.Post
 turn-returns-7 t c =
