@@ -12,7 +12,7 @@ use Rattle.syntax.specs.Trees.{Elems, elems}
 use Rattle.syntax.specs.Accessors.{rest, textOf}
 use Rattle.siblings.specs.Siblings.{kindOf, isToken, skipTrivia}
 use Rattle.siblings.proofs.SiblingLaws.{some-token, long-some}
-use Rattle.matcher.specs.declared.tokens.Sheet.{Sheet}
+use Rattle.matcher.specs.declared.token_matching.Sheet.{Sheet}
 use Rattle.matcher.specs.Tokens.{agree, skips, isExtra, pastSeparator, isSameToken, matchesToken, afterToken}
 
 -- a token that agrees is one

@@ -13,7 +13,7 @@ use Rattle.paths.specs.declared.tables.PathAt.{PathAt}
 use Rattle.paths.specs.declared.tables.PathAt.the-variants.{NotResolved, ResolvedTo}
 use Rattle.paths.specs.declared.tables.CallAt.{CallAt}
 use Rattle.paths.specs.declared.tables.CallAt.the-variants.{NoCall, Call, TypedCall}
-use Rattle.matcher.specs.declared.tokens.Sheet.{Sheet}
+use Rattle.matcher.specs.declared.token_matching.Sheet.{Sheet}
 use Rattle.matcher.specs.declared.marks.Context.{Context}
 
 -- The rule's text and the file's, the file's tree and facts, the sheet of separators, and what the rule says of the elements of its pattern

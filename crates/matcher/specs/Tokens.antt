@@ -10,8 +10,8 @@ use Rattle.syntax.specs.Trees.{Elems}
 use Rattle.syntax.specs.Accessors.{rest, some, textOf}
 use Rattle.siblings.specs.Siblings.{kindOf, isToken, isComment, skipTrivia}
 use Rattle.captures.specs.Attempts.{Noted, Attempt, matched}
-use Rattle.matcher.specs.declared.tokens.Skip.{Skip}
-use Rattle.matcher.specs.declared.tokens.Sheet.{Sheet}
+use Rattle.matcher.specs.declared.token_matching.Skip.{Skip}
+use Rattle.matcher.specs.declared.token_matching.Sheet.{Sheet}
 
 -- two tokens: "p.kind() != code.kind() || p.text() != code.text()"
 abbrev pub agree : ℕ → List ℕ → ℕ → List ℕ → Bool

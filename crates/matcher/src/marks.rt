@@ -1,5 +1,5 @@
 // What a rule says of its pattern's elements, four words each, and of its placeholders.
-use crate::tokens::Sheet;
+use crate::token_matching::Sheet;
 use syntax::accessors;
 use words::fields;
 ghost use mathlib.Core.Path.{_≡_};

@@ -17,7 +17,7 @@ use Rattle.captures.specs.declared.State.{State}
 use Rattle.captures.specs.declared.Answer.{Answer}
 use Rattle.captures.specs.declared.Turn.{Turn}
 use Rattle.captures.proofs.AttemptLaws.{gives-event, gives-done, gives-failed, gives-end, gives-length, leads-then, fails-then, then-right}
-use Rattle.matcher.specs.declared.tokens.Token.{Token}
+use Rattle.matcher.specs.declared.token_matching.Token.{Token}
 use Rattle.matcher.specs.Matcher.{Matcher, slotOf}
 use Rattle.matcher.specs.Tokens.{matchesToken, afterToken, note}
 use Rattle.matcher.proofs.TokenLaws.{pass-more}

@@ -1,6 +1,6 @@
 // The fields of record lists by name. Without a heap there is no map: a name is looked for among the code's siblings, or the pattern's.
 use matcher::file_facts;
-use matcher::tokens;
+use matcher::token_matching;
 use syntax::accessors;
 use syntax::parts;
 use words::texts;
@@ -39,7 +39,7 @@ fn has_name(q: &[u32], rule: &[u8], kind: u32, name: &[u8]) -> bool
     }
     let at = accessors::range_of(ident);
     let own = texts::part_of(rule, at.start, at.end);
-    tokens::same_name(siblings::kind_of(ident), own, kind, name)
+    token_matching::same_name(siblings::kind_of(ident), own, kind, name)
 }
 
 // Whether one of the pattern's siblings has a name.
@@ -106,7 +106,7 @@ fn is_field(
     }
     let at = accessors::range_of(token);
     let own = texts::part_of(file, at.start, at.end);
-    tokens::same_name(kind, name, siblings::kind_of(token), own)
+    token_matching::same_name(kind, name, siblings::kind_of(token), own)
 }
 
 // How many elements are before the last of the code's siblings that is a field of a name; all where there is none.

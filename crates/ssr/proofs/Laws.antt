@@ -1,4 +1,4 @@
--- Laws of the names of eight placeholders.
+-- Laws of a list made of another, one after the other.
 -- Assumes nothing.
 use mathlib.Core.Path.{_≡_, sym, ap, _∙_}
 use mathlib.Core.List.{List, map, map-append}
@@ -6,14 +6,10 @@ use Prim.Native.Nat.{ℕ, _+_, _≤_, _<_}
 use native.Mathlib.Numerals.{add-one}
 use lib.ListN.{length, take, set, getD}
 use lib.Seq.{take-suc, take-suc-set, take-all}
-use Rattle.parsing.specs.declared.patterns.Placeholder.{Placeholder}
-use Rattle.parsing.specs.Answers.{noPlaceholder}
-use Rattle.ssr.specs.declared.NamedPlaceholder.{NamedPlaceholder}
-use Rattle.ssr.specs.Exports.{nameOf}
 
-module _ (l : List Placeholder) (names : List NamedPlaceholder) (i : ℕ) (so-far : take i names ≡ map nameOf (take i l)) where
-  pub next-name : i < length l → i < length names → take (i + 1) (set names i (nameOf (getD l i noPlaceholder))) ≡ map nameOf (take (i + 1) l)
-  next-name h k = rw (add-one, take-suc-set, take-suc l i noPlaceholder, map-append, so-far)
+module _ {A B : Type 0} (f : A → B) (d : A) (l : List A) (made : List B) (i : ℕ) (so-far : take i made ≡ map f (take i l)) where
+  pub next-made : i < length l → i < length made → take (i + 1) (set made i (f (getD l i d))) ≡ map f (take (i + 1) l)
+  next-made h k = rw (add-one, take-suc-set, take-suc l i d, map-append, so-far)
 
-  pub all-names : length l ≤ i → length names ≤ i → names ≡ map nameOf l
-  all-names h k = sym (take-all i names k) ∙ so-far ∙ ap (map nameOf) (take-all i l h)
+  pub all-made : length l ≤ i → length made ≤ i → made ≡ map f l
+  all-made h k = sym (take-all i made k) ∙ so-far ∙ ap (map f) (take-all i l h)

@@ -1,5 +1,5 @@
 // How far a placeholder's run in a token tree goes.
-use matcher::tokens;
+use matcher::token_matching;
 use syntax::accessors;
 use words::fields;
 use words::texts;
@@ -29,7 +29,7 @@ fn is_stop(stop: &[u32], c: &[u32], rule: &[u8], file: &[u8]) -> bool
     }
     let at = accessors::range_of(stop);
     let other = accessors::range_of(first);
-    tokens::same_stop(
+    token_matching::same_stop(
         siblings::kind_of(stop),
         texts::part_of(rule, at.start, at.end),
         siblings::kind_of(first),

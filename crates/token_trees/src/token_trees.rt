@@ -7,7 +7,7 @@ use captures::State;
 use captures::Turn;
 use matcher::marks;
 use matcher::marks::Context;
-use matcher::tokens;
+use matcher::token_matching;
 use syntax::accessors;
 ghost use mathlib.Core.Path.{_≡_};
 ghost use mathlib.Core.List.{List};
@@ -117,7 +117,7 @@ fn token_turn(
     }
     if accessors::is_token_in(c, 1, 1023) {
         let sheet = cx.sheet;
-        let a = tokens::attempt_match_token(rule, file, sheet, y, c);
+        let a = token_matching::attempt_match_token(rule, file, sheet, y, c);
         if a.ok {
             return Turn {
                 go: true,

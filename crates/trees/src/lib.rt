@@ -7,9 +7,12 @@ use parsing::patterns;
 use rust_code::tree_text;
 ghost use mathlib.Core.Path.{_≡_};
 ghost use mathlib.Core.Logic.{_↔_};
+ghost use Prim.Native.Nat.{_/_, _≤_};
 ghost use lib.ListN.{length};
 ghost use Rattle.errors.specs.declared.Outcome.the-variants.{Accepted};
+ghost use Rattle.syntax.specs.Checks.{WellFormed};
 ghost use Rattle.facts.specs.declared.Owner.the-variants.{File};
+ghost use Rattle.facts.specs.Keys.{Indexed};
 ghost use Rattle.trees.specs.Given.{withFacts, fileOutcome, ruleOutcome, givenOutcome, Stands};
 
 // 18 to 20 of a tree over a text of some bytes, then 21 of its facts.
@@ -40,6 +43,29 @@ pub fn check_file(words: &[u32], text: &[u8], facts: &[u32]) -> Outcome
     ensures { λ r. ⌜ (r ≡ Accepted) ↔ Stands File (length (now (text .entry))) (now (words .entry)) (now (facts .entry)) 0 ⌝ }
 {
     check_with_facts(Owner::File, true, words, text.len(), facts, 0)
+}
+
+// The same, and the index of the facts where they are accepted.
+pub fn check_and_index_file(
+    words: &[u32],
+    text: &[u8],
+    facts: &[u32],
+    index: &mut [u64],
+    spare: &mut [u64],
+) -> Outcome
+    requires { ⌜ (length (now facts) / 4 ≤ 16383 → (length (now facts) / 4 ≤ length (now index)) × (length (now facts) / 4 ≤ length (now spare))) ⌝ }
+    ensures { λ r. ⌜ r ≡ fileOutcome (now (words .entry)) (now (text .entry)) (now (facts .entry)) ⌝ }
+    ensures { λ r. ⌜ (r ≡ Accepted → WellFormed (now (words .entry)) × Indexed (now (facts .entry)) (now (index .exit))) ⌝ }
+{
+    match syntax::checking::check_tree(words, text.len(), true) {
+        Outcome::Accepted => {
+            if checking::check_and_index(Owner::File, words, facts, 0, index, spare) {
+                return Outcome::Accepted;
+            }
+            Outcome::Refused(Refusal::MalformedFacts)
+        }
+        Outcome::Refused(r) => Outcome::Refused(r),
+    }
 }
 
 // A rule's tree with its facts; one without words is absent.

@@ -59,6 +59,11 @@ impl Facts {
         self.by_key.get(&(sort, element, 0)).copied()
     }
 
+    /// The values of the fact of sort 3 or 7 at an element, with a step or a module.
+    pub fn get_at(&self, sort: u32, element: usize, at: u32) -> Option<[u32; 3]> {
+        self.by_key.get(&(sort, element, at)).copied()
+    }
+
     /// Whether a step stands without the one before it.
     fn has_gap(&self) -> bool {
         self.by_key.keys().any(|&(sort, element, step)| {

@@ -1,14 +1,17 @@
 //! Document 01's checks that the crate does not have, and its writing of the edit list,
 //! written plainly from the papers: the judge of damaged input.
 //!
-//! Nothing here matches. `answer` gives the whole outcome of every operation that needs no
-//! matching and of every refused one; `write` takes the kept matches from elsewhere.
+//! `answer` gives the whole outcome of every operation that needs no matching and of every refused
+//! one; `write` takes the kept matches from elsewhere. `match_node` is for what the crate cannot be
+//! asked, and tells which ways a match goes: where the crate can be asked, the judge holds the two
+//! against each other.
 
 mod answer;
 mod check;
 mod facts;
 mod lists;
 mod lowest;
+mod matching;
 mod parses;
 mod rules;
 mod tokens;
@@ -18,6 +21,7 @@ mod write;
 pub use answer::{answer, refused};
 pub use check::{built_rules, check, check_parses, check_tree, checked_file, checked_rules};
 pub use facts::{Facts, Place};
+pub use matching::{Attempt, Found, Notes, WAYS, Way, Ways, match_node};
 pub use parses::{Parse, read_parses};
 pub use rules::{Resolved, Rule};
 pub use tokens::{ReadList, STAND_IN, read_tokens};

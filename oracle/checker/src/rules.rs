@@ -104,7 +104,7 @@ pub struct Resolved {
     /// Function and qualifier type of each call that a resolved path claims.
     pub calls: BTreeMap<usize, (u32, Option<u32>)>,
     pub contains_self: bool,
-    facts: Facts,
+    pub facts: Facts,
 }
 
 /// A rule left after building.
@@ -115,6 +115,8 @@ pub struct Rule {
     pub template_tree: TemplateTree,
     /// The stand-in names of the pattern's placeholders, in pattern order.
     pub stand_ins: Vec<Vec<u8>>,
+    /// For each placeholder the `not`s of each of its constraints.
+    pub nots: Vec<Vec<u32>>,
     pub pattern: Resolved,
     pub template: Option<Resolved>,
 }
@@ -150,6 +152,8 @@ pub fn build(lists: &[PairLists], trees: Vec<PairTrees>) -> Result<Vec<Rule>, u3
 fn pair_rules(pair: u32, lists: &PairLists, trees: PairTrees) -> Vec<Rule> {
     let stand_ins: Vec<Vec<u8>> =
         lists.pattern.names().iter().map(|name| [STAND_IN, name].concat()).collect();
+    let nots = lists.pattern.placeholders.iter().map(|placeholder| placeholder.nots.clone());
+    let nots: Vec<Vec<u32>> = nots.collect();
     let mut rules = Vec::new();
     for form in 0..5 {
         let Some(pattern) = &trees.pattern[form] else {
@@ -168,6 +172,7 @@ fn pair_rules(pair: u32, lists: &PairLists, trees: PairTrees) -> Vec<Rule> {
                 form: form as u32,
                 template_tree,
                 stand_ins: stand_ins.clone(),
+                nots: nots.clone(),
                 pattern: unresolved(pattern),
                 template: template.as_ref().map(unresolved),
             });

@@ -84,12 +84,14 @@ impl Tree {
         self.children(i).find(|&c| self.is_node(c, kind))
     }
 
+    /// Whether an element is a node of expression kind.
+    pub fn is_expression(&self, i: usize) -> bool {
+        self.elements[i].node && (64..=1023).contains(&self.elements[i].kind)
+    }
+
     /// The first child node of expression kind.
     pub fn first_expression(&self, i: usize) -> Option<usize> {
-        self.children(i).find(|&c| {
-            let child = &self.elements[c];
-            child.node && (64..=1023).contains(&child.kind)
-        })
+        self.children(i).find(|&c| self.is_expression(c))
     }
 
     /// Goes down first children; none at a childless node.

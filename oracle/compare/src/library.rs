@@ -1,5 +1,6 @@
 //! The Rattle library's functions (include/ssr.h), and safe calls of them.
 
+pub mod matching;
 pub mod rules;
 
 use input::{Answer, File, Outcome, RuleSide, TokenList, TreeCheck};

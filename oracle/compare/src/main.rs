@@ -4,6 +4,8 @@
 mod bench;
 mod comparison;
 mod library;
+mod matching;
+mod matching_sample;
 mod plain;
 mod rules;
 mod rules_bench;
@@ -32,6 +34,11 @@ const USAGE: &str = "usage: compare corpus < CASES
        compare rules corpus < CASES
        compare rules generated SEED COUNT
        compare rules damaged SEED COUNT
+       compare matching corpus < CASES
+       compare matching generated SEED COUNT
+       compare matching tiny STEP
+       compare matching damaged SEED COUNT
+       compare matching limits
        compare bench
        compare sample SEED COUNT";
 
@@ -51,6 +58,15 @@ fn run(arguments: &[&str]) -> Result<bool, String> {
         ["rules", "corpus"] => rules::corpus(),
         ["rules", "generated", seed, count] => Ok(rules::generated(number(seed)?, number(count)?)),
         ["rules", "damaged", seed, count] => Ok(rules::damaged(number(seed)?, number(count)?)),
+        ["matching", "corpus"] => matching::corpus(),
+        ["matching", "generated", seed, count] => {
+            Ok(matching::generated(number(seed)?, number(count)?))
+        }
+        ["matching", "tiny", step] => Ok(matching::tiny(number(step)?)),
+        ["matching", "damaged", seed, count] => {
+            Ok(matching::damaged(number(seed)?, number(count)?))
+        }
+        ["matching", "limits"] => Ok(matching::limits()),
         ["bench"] => {
             bench::run();
             Ok(tree_bench::run() & rules_bench::run())

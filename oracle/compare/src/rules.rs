@@ -26,7 +26,7 @@ const COPIES: u64 = 8;
 
 /// Numbers that no rule and no element has: the low halves of the first two are small, and three times
 /// the last is 2 in 64 bits.
-const NO_NUMBER: [usize; 4] = [1 << 32, (1 << 32) + 1, usize::MAX, usize::MAX / 3 + 1];
+pub const NO_NUMBER: [usize; 4] = [1 << 32, (1 << 32) + 1, usize::MAX, usize::MAX / 3 + 1];
 /// Sides that no rule has.
 const NO_SIDE: [u32; 2] = [2, u32::MAX];
 

@@ -9,6 +9,7 @@ use judge::judge;
 
 use crate::comparison::with_lists;
 use crate::library::{ReadTokens, judged_pair, judged_raw_code};
+use crate::matching_sample;
 use crate::rules_sample;
 use crate::tree_sample;
 
@@ -44,6 +45,7 @@ pub fn make(seed: u64, count: usize) -> Result<Vec<u8>, String> {
     }
     sample.extend(tree_sample::make(seed));
     sample.extend(rules_sample::make(seed, count)?);
+    sample.extend(matching_sample::make(seed, count)?);
     Ok(sample)
 }
 

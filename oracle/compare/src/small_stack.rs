@@ -13,6 +13,10 @@ pub const OF_TREES: usize = CHECK + 256 * 1024;
 /// For resolving, which has its tables while it checks, with 64 KiB for all else: 16 KiB are too little.
 pub const OF_RESOLVING: usize = TABLES + CHECK + 64 * 1024;
 
+/// For matching one node: tables of resolving, the file's index and the pattern's marks, and the depth
+/// of 128 levels.
+pub const OF_MATCHING: usize = 2 * 1024 * 1024;
+
 /// Does some work on a stack of so many bytes; one that is used up ends the program.
 pub fn on_stack<T: Send>(bytes: usize, work: impl FnOnce() -> T + Send) -> T {
     let result = thread::scope(|scope| {

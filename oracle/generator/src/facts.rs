@@ -72,7 +72,7 @@ fn field_fact(rng: &mut Rng, i: usize, field: &Syntax, faults: usize) -> Option<
 }
 
 /// The types that an expression has under autoderef, mostly those of `S` and `T` among them.
-fn steps(rng: &mut Rng, i: usize) -> Vec<[u32; 4]> {
+pub fn steps(rng: &mut Rng, i: usize) -> Vec<[u32; 4]> {
     let mut types = [7, 8, 9, 9];
     rng.shuffle(&mut types);
     let count = *rng.pick(&[0, 1, 2, 3, 4, 4, 4]);

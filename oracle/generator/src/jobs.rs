@@ -96,7 +96,7 @@ fn rules(rng: &mut Rng) -> Rules {
     encode(&draft.pairs, &draft.fact_text)
 }
 
-fn rules_and_file(rng: &mut Rng) -> (Rules, File) {
+pub fn rules_and_file(rng: &mut Rng) -> (Rules, File) {
     let draft = draft(rng);
     let root = code(rng, &draft.patterns);
     let file = File { tree: root.words(), text: root.text(), facts: file_facts(rng, &root) };

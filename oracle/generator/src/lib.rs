@@ -2,6 +2,7 @@
 //! three always give the same case.
 
 pub mod arguments;
+pub mod bent_matches;
 pub mod bent_rules;
 pub mod bent_trees;
 mod damage;
@@ -13,6 +14,11 @@ mod jobs;
 mod kinds;
 mod limits;
 mod lists;
+pub mod match_limits;
+mod odd_code;
+mod odd_facts;
+pub mod odd_matches;
+mod odd_patterns;
 pub mod odd_rules;
 mod odd_trees;
 mod pairs;

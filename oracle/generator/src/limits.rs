@@ -49,7 +49,7 @@ const CASES: [Make; 40] = [
     || nested(9, 4096),
     || nested(6, 1_048_580),
     || doubled(8),
-    || restarts(6),
+    || restarts(6, true),
     || whole_buffer(),
 ];
 
@@ -58,8 +58,8 @@ const COSTLY: [Make; 6] = [
     || nested(24, 4096),
     || nested(60, 1_048_576),
     || doubled(16),
-    || restarts(20),
-    || restarts(60),
+    || restarts(20, true),
+    || restarts(60, true),
     || nested(60, 60),
 ];
 
@@ -233,18 +233,21 @@ fn doubled(count: usize) -> Operation {
     Operation::Walk(Job { rules, file, buffer: 64, ..Job::default() })
 }
 
-/// Record lists so deep, each with a field `x` and a placeholder name: each starts over.
-fn restarts(depth: usize) -> Operation {
+/// Record lists so deep, each with a field `x` and a placeholder name: each starts over. In each there
+/// may be a comment.
+pub fn restarts(depth: usize, comments: bool) -> Operation {
     let list = |inner: Option<Syntax>, name: Syntax, rest: &[Syntax]| {
         let field = inner.map(|inner| node(RECORD_FIELD, [ident("x"), inner]));
         let named = [&[node(NAME_REF, [name])], rest, &[ident("k")]].concat();
         let last = node(RECORD_FIELD, named);
         node(RECORD_LIST, field.into_iter().chain([last]).collect::<Vec<_>>())
     };
+    let comment = [token(COMMENT, "/**/")];
+    let noted = if comments { &comment[..] } else { &[] };
     let (mut pattern, mut code) = (None, None);
     for _ in 0..=depth {
         pattern = Some(list(pattern, stand_in("n"), &[]));
-        code = Some(list(code, ident("y"), &[token(COMMENT, "/**/")]));
+        code = Some(list(code, ident("y"), noted));
     }
     let (pattern, code) = (pattern.unwrap_or(node(1, [])), code.unwrap_or(node(1, [])));
     // The first stand-in name is declared, the others are written out.

@@ -69,7 +69,7 @@ fn tree(rng: &mut Rng, names: &[&str], most: usize) -> Syntax {
 }
 
 /// The placeholders whose stand-in names occur, whatever the kind of the token.
-fn occurring<'a>(tree: &Syntax, names: &[&'a str]) -> Vec<&'a str> {
+pub(crate) fn occurring<'a>(tree: &Syntax, names: &[&'a str]) -> Vec<&'a str> {
     let tokens = tree.tokens();
     let occurs = |name: &&&str| {
         tokens.iter().any(|(_, text)| text.strip_prefix(STAND_IN) == Some(name.as_bytes()))
@@ -78,7 +78,7 @@ fn occurring<'a>(tree: &Syntax, names: &[&'a str]) -> Vec<&'a str> {
 }
 
 /// Which forms a pattern has: mostly the expression, others beside it.
-fn forms(rng: &mut Rng) -> [bool; 5] {
+pub(crate) fn forms(rng: &mut Rng) -> [bool; 5] {
     let mut forms = [0; 5].map(|_| rng.chance(30));
     forms[0] = rng.chance(80);
     forms[rng.below(5)] |= !forms.contains(&true);
@@ -86,7 +86,7 @@ fn forms(rng: &mut Rng) -> [bool; 5] {
 }
 
 /// Which forms a template has: mostly the pattern's, or the statement for the expression.
-fn template_forms(rng: &mut Rng, pattern: [bool; 5]) -> [bool; 5] {
+pub(crate) fn template_forms(rng: &mut Rng, pattern: [bool; 5]) -> [bool; 5] {
     let mut forms = if rng.chance(80) { pattern } else { [0; 5].map(|_| rng.chance(50)) };
     if forms[0] && rng.chance(30) {
         forms[0] = false;
@@ -115,7 +115,7 @@ fn side(
 }
 
 /// The kind of a tree's token in the list: no white space, which would be none of the code.
-fn list_kind(kind: u32, text: &[u8]) -> u32 {
+pub(crate) fn list_kind(kind: u32, text: &[u8]) -> u32 {
     match kind {
         _ if is_stand_in(text) => IDENT,
         WHITESPACE => NUMBER,

@@ -6,12 +6,14 @@ mod lists;
 pub mod predicates;
 pub mod program;
 mod rules;
+mod whole_matches;
 mod whole_rules;
 
 use checker::refused;
 use input::{Answer, Operation, Outcome};
 use predicates::Difference;
 use ssr::{NotFed, Stopped};
+pub use whole_matches::{JudgedMatch, MatchQuestion, WholeMatches, whole_matches};
 pub use whole_rules::{Backing, Held, JudgedSide, Sides, WholeRules, whole_rules, without_facts};
 
 /// What is known of an operation.

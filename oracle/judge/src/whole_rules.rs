@@ -20,7 +20,7 @@ pub struct JudgedSide {
 pub type Sides = [Option<JudgedSide>; 2];
 
 /// What the crate's own source says to an answer of the checker.
-#[derive(Debug)]
+#[derive(Clone, Debug)]
 pub enum Backing {
     Same,
     /// It is refused with a number that the crate does not have.
@@ -93,7 +93,7 @@ pub fn without_facts(mut pair: Pair) -> Pair {
     pair
 }
 
-fn held<T: PartialEq + Debug>(
+pub(crate) fn held<T: PartialEq + Debug>(
     answer: Result<T, u32>,
     ask: impl FnOnce() -> Asked<T>,
     is_listed: impl FnOnce(&Result<T, u32>, &Result<T, u32>) -> bool,
@@ -110,7 +110,7 @@ fn held<T: PartialEq + Debug>(
 }
 
 /// Of a list with a ninth placeholder the crate names another fault, or one behind it.
-fn is_refusal_listed<T>(
+pub(crate) fn is_refusal_listed<T>(
     covered: &[Difference],
     found: &Result<T, u32>,
     answer: &Result<T, u32>,

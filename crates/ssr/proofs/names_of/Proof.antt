@@ -5,7 +5,8 @@ use mathlib.Core.List.{map}
 use Prim.Native.Nat.{_≤_, _-_}
 use native.Mathlib.Omega.{arith}
 use lib.ListN.{length, take, length-set}
-use Rattle.ssr.proofs.Laws.{next-name, all-names}
+use Rattle.ssr.proofs.Laws.{next-made, all-made}
+use Rattle.parsing.specs.Answers.{noPlaceholder}
 use Rattle.ssr.specs.Exports.{nameOf}
 use Rattle.ssr.proofs.names_of.Statement.{statement}
 use Rattle.ssr.proofs.names_of.Tie as tie
@@ -44,13 +45,13 @@ loop-again : tie.Need-loop-again Inv-loop μ-loop
 loop-again c =
     let l = c .before .before .before .args .t1 in let i = c .before .before .loop .i in let names = c .before .before .loop .names in
     let e = eight (c .before .before .before) in
-    (omega arith, simp length-set (c .before .before .loop .inv .1), next-name l names i (c .before .before .loop .inv .2) (omega arith) (omega arith))
+    (omega arith, simp length-set (c .before .before .loop .inv .1), next-made nameOf noPlaceholder l names i (c .before .before .loop .inv .2) (omega arith) (omega arith))
 
 returns : tie.Need-returns Inv-loop μ-loop
 returns c =
     let l = c .before .before .args .t1 in let i = c .before .loop .i in let names = c .before .loop .names in
     let e = eight (c .before .before) in
-    all-names l names i (c .before .loop .inv .2) (omega arith) (omega arith)
+    all-made nameOf noPlaceholder l names i (c .before .loop .inv .2) (omega arith) (omega arith)
 
 pub names-of-spec : {M : Type 1} → statement M
 names-of-spec =

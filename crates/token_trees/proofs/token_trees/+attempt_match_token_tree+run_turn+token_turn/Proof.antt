@@ -32,7 +32,7 @@ use Rattle.captures.proofs.bind.Reads as bind-reads
 use Rattle.captures.proofs.fail.Reads as fail-reads
 use Rattle.captures.proofs.stop.Reads as stop-reads
 use Rattle.matcher.proofs.marks.slot_at.Reads as slot-at-reads
-use Rattle.matcher.proofs.tokens.attempt_match_token.Reads as attempt-match-token-reads
+use Rattle.matcher.proofs.token_matching.attempt_match_token.Reads as attempt-match-token-reads
 use Rattle.siblings.proofs.behind.Reads as behind-reads
 use Rattle.siblings.proofs.children.Reads as children-reads
 use Rattle.siblings.proofs.skip_trivia.Reads as skip-trivia-reads

@@ -1,0 +1,3 @@
+pub mod RuleMatch
+pub mod MatchNode
+pub mod Ready

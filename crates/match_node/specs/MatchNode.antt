@@ -1,0 +1,82 @@
+-- Matching one node, document 01: "18 to 22, then 23 no such node or rule, or a range whose start is after its end. A match answers its
+-- bindings in pattern order, and the buffer holds the texts of its noted comments in turn; 16 comes last, where these do not fit."
+-- Assumes nothing.
+use Prim.Native.Nat.{ℕ}
+use mathlib.Core.Bool.{Bool, true, false, cond, not, _&&_, _||_}
+use mathlib.Core.List.{List, [], _∷_}
+use lib.Dec.{ltb, leb}
+use lib.ListN.{length, replicate}
+use Rattle.errors.specs.declared.Outcome.{Outcome}
+use Rattle.errors.specs.declared.Outcome.the-variants.{Accepted, Refused}
+use Rattle.errors.specs.declared.Refusal.{Refusal}
+use Rattle.errors.specs.declared.Refusal.the-variants.{NoSuchNodeOrRule, DoesNotFit}
+use Rattle.errors.specs.Refusals.{lowestOf, firstOf, inTurn}
+use Rattle.words.specs.Buffer.{usedOf, filled}
+use Rattle.syntax.specs.Trees.{tree}
+use Rattle.syntax.specs.Accessors.{elementAt, nodeIn}
+use Rattle.trees.specs.Given.{fileOutcome}
+use Rattle.fragments.specs.Pairs.{pairs, pairAt}
+use Rattle.rules.specs.declared.numbering.Found.{Found}
+use Rattle.rules.specs.declared.numbering.Found.the-variants.{NoSuchRule, At}
+use Rattle.rules.specs.declared.stages.Stage.{Stage}
+use Rattle.rules.specs.declared.stages.Stage.the-variants.{Lists, TreesWithFacts, Forms}
+use Rattle.rules.specs.Stages.{directoryOutcome, stageOutcome}
+use Rattle.rules.specs.Numbering.{rules, ruleAt}
+use Rattle.resolving.specs.RulePaths.{pathsOutcome}
+use Rattle.captures.specs.Attempts.{Attempt, failed, matched, comments}
+use Rattle.captures.specs.Effects.{unbound, nothing, recorded}
+use Rattle.get_match.specs.declared.Restriction.{Restriction}
+use Rattle.answers.specs.declared.NodeMatch.{NodeMatch}
+use Rattle.answers.specs.Answers.{refusedMatch, answerOf, bytesOf}
+use Rattle.checks.specs.Given.{File, Rules, givenOutcome}
+use Rattle.match_node.specs.RuleMatch.{ruleMatch}
+
+-- the rule of a number
+abbrev pub foundRule : Rules → ℕ → Found
+foundRule q number = ruleAt (rules (pairs (q .directory) (q .words) (q .bytes))) number
+
+abbrev pub isFound : Found → Bool
+isFound NoSuchRule = false
+isFound (At r) = true
+
+-- 23: "no such node or rule, or a range whose start is after its end"
+abbrev pub isNodeOf : File → ℕ → Bool
+isNodeOf f node = nodeIn 1 4095 (elementAt node (tree (f .words)))
+
+abbrev pub isRange : Restriction → Bool
+isRange range = not (range .given && ltb (range .end) (range .start))
+
+abbrev pub askedOutcome : Found → File → Restriction → ℕ → Outcome
+askedOutcome found f range node =
+    firstOf (record { fails = not (isFound found && isNodeOf f node && isRange range); refusal = NoSuchNodeOrRule } ∷ [])
+
+-- all of them in turn; 22 after 17
+abbrev pub matchOutcome : Rules → File → ℕ → Restriction → ℕ → Outcome
+matchOutcome q f number range node =
+    inTurn
+    (givenOutcome q f
+    ∷ pathsOutcome (pairs (q .directory) (q .words) (q .bytes))
+    ∷ askedOutcome (foundRule q number) f range node
+    ∷ [])
+
+-- the match of the rule that was found
+abbrev pub foundMatch : Rules → File → Found → Restriction → ℕ → Attempt
+foundMatch q f NoSuchRule range node = failed
+foundMatch q f (At r) range node = ruleMatch (pairAt (r .pair) (q .directory) (q .words) (q .bytes)) r f range node
+
+-- the attempt that is made where nothing is refused
+abbrev pub answerBy : Outcome → ℕ → Attempt → NodeMatch
+answerBy (Refused r) room a = refusedMatch r
+answerBy Accepted room a = answerOf room a
+
+abbrev pub bytesBy : Outcome → ℕ → Attempt → List ℕ
+bytesBy (Refused r) room a = []
+bytesBy Accepted room a = bytesOf room a
+
+-- the operation: its answer, and the buffer then
+abbrev pub matchedNode : Rules → File → ℕ → Restriction → ℕ → ℕ → NodeMatch
+matchedNode q f number range node room = answerBy (matchOutcome q f number range node) room (foundMatch q f (foundRule q number) range node)
+
+abbrev pub bufferAfter : Rules → File → ℕ → Restriction → ℕ → List ℕ → List ℕ
+bufferAfter q f number range node out =
+    filled out (bytesBy (matchOutcome q f number range node) (usedOf (length out)) (foundMatch q f (foundRule q number) range node))
