@@ -164,6 +164,45 @@ ssr_resolve_answer ssr_resolve(const uint32_t *directory, size_t directory_lengt
                                const uint8_t *fact_text, size_t fact_text_length,
                                size_t rule, uint32_t side, size_t element);
 
+/* A placeholder's binding. One that is not bound is all 0. */
+typedef struct ssr_binding {
+    uint32_t bound; /* 1 if the placeholder is bound */
+    uint32_t start; /* what it captured: the bytes from start up to end of the file's text */
+    uint32_t end;
+    uint32_t stars; /* for the receiver of a method call, how often it is dereferenced; else 0 */
+    uint32_t self_kind; /* for that receiver, how its function takes it: 0 owned, 1 `&`, 2 `&mut` */
+} ssr_binding;
+
+/* The answer of matching one node. Everything that is not used is 0; after a refusal that is all but the number, and
+ * without a match all. */
+typedef struct ssr_match_node_answer {
+    /* 0 if nothing was refused, else 1 to 15, 18 to 21 of the rules' trees and the file's, 17, 22 or, after these,
+     *   23  no such node or rule, or a range whose start is after its end
+     *   16  the comments of the match do not fit, which comes last
+     */
+    uint32_t refusal;
+    uint32_t matched; /* 1 if the node matches */
+    size_t length; /* how many bytes its noted comments have */
+    ssr_binding bindings[SSR_PLACEHOLDERS]; /* in pattern order */
+} ssr_match_node_answer;
+
+/* Matching one node of a file with one rule: node is an element's number in the file's tree, rule is numbered as by
+ * building. With range_given 0 the range is not looked at; else the node has to lie in it, where both ends may be the
+ * node's own. The buffer holds the texts of the noted comments in turn, and then 0; without a match, and after a
+ * refusal, it is all 0 (its first 1,048,576 bytes, or all of a shorter one; bytes beyond never change).
+ * It uses less than 2 MB of stack.
+ */
+ssr_match_node_answer ssr_match_node(const uint32_t *directory, size_t directory_length,
+                                     const uint32_t *words, size_t words_length,
+                                     const uint8_t *bytes, size_t bytes_length,
+                                     const uint8_t *fact_text, size_t fact_text_length,
+                                     const uint32_t *tree, size_t tree_length,
+                                     const uint8_t *text, size_t text_length,
+                                     const uint32_t *facts, size_t facts_length,
+                                     size_t node, size_t rule,
+                                     uint32_t range_given, size_t range_start, size_t range_end,
+                                     uint8_t *out, size_t out_length);
+
 #ifdef __cplusplus
 }
 #endif

@@ -1,14 +1,14 @@
 -- What the code keeps while it matches: eight bindings, the place behind the comments laid so far, and the buffer they are laid in. Every
 -- attempt acts on these as its events say, one after the other.
 -- Assumes nothing.
-use Prim.Native.Nat.{ℕ, _+_, _*_}
+use Prim.Native.Nat.{ℕ, _+_}
 use mathlib.Core.Path.{_≡_}
 use mathlib.Core.Bool.{true, false, cond}
 use mathlib.Core.List.{List, [], _∷_}
 use lib.Dec.{leb}
-use lib.ListN.{length, drop, set, replicate}
+use lib.ListN.{length, set, replicate}
 use Rattle.words.specs.Buffer.{laidIfRoom}
-use Rattle.syntax.specs.Trees.{Elems, elems}
+use Rattle.syntax.specs.Trees.{Elems}
 use Rattle.syntax.specs.Accessors.{rangeOf}
 use Rattle.captures.specs.declared.Binding.{Binding}
 use Rattle.captures.specs.declared.State.{State}

@@ -60,7 +60,17 @@ pub fn check_given(
     if is_directory(directory, words, bytes) {
         match stages::check_stage(Stage::Lists, directory, words, bytes, fact_bytes) {
             Outcome::Accepted => {
-                check_trees(directory, words, bytes, fact_bytes, tree, text, facts, index, spare)
+                check_trees(
+                    directory,
+                    words,
+                    bytes,
+                    fact_bytes,
+                    tree,
+                    text,
+                    facts,
+                    index,
+                    spare,
+                )
             }
             Outcome::Refused(r) => Outcome::Refused(r),
         }

@@ -1,2 +1,4 @@
--- The theorem of the starred examples.
+-- The theorem of the starred examples, and what lets its definitions compute.
+pub mod Decoding
+pub mod Searching
 pub mod Theorem

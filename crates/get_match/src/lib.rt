@@ -75,11 +75,33 @@ pub fn get_match(
     let c = accessors::element(words, node);
     if is_within(range, c) {
         let s = captures::start();
-        let r = attempt_match::node(p, c, rule, file, marks, words, facts, index, 0, node, cx, s, out);
+        let r = attempt_match::node(
+            p,
+            c,
+            rule,
+            file,
+            marks,
+            words,
+            facts,
+            index,
+            0,
+            node,
+            cx,
+            s,
+            out,
+        );
         if r.ok {
             if asked.has_template {
                 let n = asked.elements;
-                if templates::render_template_paths(paths, template_facts, template_index, n, facts, index, node) {
+                if templates::render_template_paths(
+                    paths,
+                    template_facts,
+                    template_index,
+                    n,
+                    facts,
+                    index,
+                    node,
+                ) {
                     return r;
                 }
                 return captures::fail();

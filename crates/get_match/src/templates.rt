@@ -4,13 +4,12 @@ use words::fields;
 ghost use mathlib.Core.Path.{_≡_};
 ghost use mathlib.Core.Bool.{true};
 ghost use mathlib.Core.List.{List};
-ghost use Prim.Native.Nat.{ℕ, _≤_};
+ghost use Prim.Native.Nat.{ℕ};
 ghost use lib.ListN.{getD};
 ghost use Rattle.syntax.specs.Trees.{Elems};
 ghost use Rattle.facts.specs.Keys.{Indexed};
 ghost use Rattle.paths.specs.Steps.{Side};
 ghost use Rattle.paths.specs.Tables.{TablesOf};
-ghost use Rattle.matcher.specs.FileFacts.{hasFact, factValue};
 ghost use Rattle.get_match.specs.Templates.{rendersAt, rendersBelow, renders};
 
 // Whether an element of the template, where it is a resolved path that refers to a definition, has a text for a module.

@@ -2,8 +2,8 @@
 -- Assumes nothing.
 use mathlib.Core.Path.{_≡_, refl, sym, ap, _∙_}
 use mathlib.Core.Bool.{Bool, true, false, not, cond, _&&_}
-use mathlib.Core.List.{List, [], _∷_, _++_, map, append-nil}
-use Prim.Native.Nat.{ℕ, _*_, _/_, _≤_}
+use mathlib.Core.List.{List, [], _++_, map, append-nil}
+use Prim.Native.Nat.{ℕ, _≤_}
 use native.Mathlib.Omega.{arith}
 use lib.Dec.{leb}
 use lib.ListN.{length, take, drop, drop-of-length-le}
@@ -16,8 +16,6 @@ use Rattle.errors.specs.Refusals.{firstOf}
 use Rattle.errors.proofs.Laws.{both-pass, turn-passes, turn-refuses, turn-both, turn-last}
 use Rattle.words.specs.Buffer.{usedOf, padded, filled}
 use Rattle.words.proofs.BufferLaws.{used-within}
-use Rattle.syntax.specs.Trees.{tree}
-use Rattle.syntax.specs.Accessors.{elementAt, nodeIn}
 use Rattle.syntax.specs.Checks.{WellFormed}
 use Rattle.syntax.proofs.Places.{tree-size, tree-none}
 use Rattle.fragments.specs.Pairs.{pairs, pairAt}

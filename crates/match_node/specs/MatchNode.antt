@@ -2,29 +2,23 @@
 -- bindings in pattern order, and the buffer holds the texts of its noted comments in turn; 16 comes last, where these do not fit."
 -- Assumes nothing.
 use Prim.Native.Nat.{ℕ}
-use mathlib.Core.Bool.{Bool, true, false, cond, not, _&&_, _||_}
+use mathlib.Core.Bool.{Bool, true, false, not, _&&_}
 use mathlib.Core.List.{List, [], _∷_}
-use lib.Dec.{ltb, leb}
-use lib.ListN.{length, replicate}
+use lib.Dec.{ltb}
+use lib.ListN.{length}
 use Rattle.errors.specs.declared.Outcome.{Outcome}
 use Rattle.errors.specs.declared.Outcome.the-variants.{Accepted, Refused}
-use Rattle.errors.specs.declared.Refusal.{Refusal}
-use Rattle.errors.specs.declared.Refusal.the-variants.{NoSuchNodeOrRule, DoesNotFit}
-use Rattle.errors.specs.Refusals.{lowestOf, firstOf, inTurn}
+use Rattle.errors.specs.declared.Refusal.the-variants.{NoSuchNodeOrRule}
+use Rattle.errors.specs.Refusals.{firstOf, inTurn}
 use Rattle.words.specs.Buffer.{usedOf, filled}
 use Rattle.syntax.specs.Trees.{tree}
 use Rattle.syntax.specs.Accessors.{elementAt, nodeIn}
-use Rattle.trees.specs.Given.{fileOutcome}
 use Rattle.fragments.specs.Pairs.{pairs, pairAt}
 use Rattle.rules.specs.declared.numbering.Found.{Found}
 use Rattle.rules.specs.declared.numbering.Found.the-variants.{NoSuchRule, At}
-use Rattle.rules.specs.declared.stages.Stage.{Stage}
-use Rattle.rules.specs.declared.stages.Stage.the-variants.{Lists, TreesWithFacts, Forms}
-use Rattle.rules.specs.Stages.{directoryOutcome, stageOutcome}
 use Rattle.rules.specs.Numbering.{rules, ruleAt}
 use Rattle.resolving.specs.RulePaths.{pathsOutcome}
-use Rattle.captures.specs.Attempts.{Attempt, failed, matched, comments}
-use Rattle.captures.specs.Effects.{unbound, nothing, recorded}
+use Rattle.captures.specs.Attempts.{Attempt, failed}
 use Rattle.get_match.specs.declared.Restriction.{Restriction}
 use Rattle.answers.specs.declared.NodeMatch.{NodeMatch}
 use Rattle.answers.specs.Answers.{refusedMatch, answerOf, bytesOf}

@@ -2,7 +2,6 @@
 -- Assumes nothing.
 use Prim.Native.Nat.{ℕ, _+_, _*_, _/_}
 use mathlib.Core.Bool.{Bool, true}
-use mathlib.Core.List.{List}
 use lib.ListN.{length}
 use Rattle.syntax.specs.Trees.{Elems, tree}
 use Rattle.syntax.specs.Accessors.{elementAt, byItself}

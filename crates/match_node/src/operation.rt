@@ -121,7 +121,17 @@ fn match_in(
     ensures { λ r. ⌜ r ≡ matchedNode (rulesOf (now (directory .entry)) (now (words .entry)) (now (bytes .entry)) «fact_bytes») (fileOf (now (tree .entry)) (now (text .entry)) (now (facts .entry))) (question .rule) (question .range) (question .node) (length (now (out .entry))) ⌝ }
     ensures { λ _. ⌜ now (out .exit) ≡ bufferAfter (rulesOf (now (directory .entry)) (now (words .entry)) (now (bytes .entry)) «fact_bytes») (fileOf (now (tree .entry)) (now (text .entry)) (now (facts .entry))) (question .rule) (question .range) (question .node) (now (out .entry)) ⌝ }
 {
-    match check_given(directory, words, bytes, fact_bytes, tree, text, facts, file_index, spare) {
+    match check_given(
+        directory,
+        words,
+        bytes,
+        fact_bytes,
+        tree,
+        text,
+        facts,
+        file_index,
+        spare,
+    ) {
         Outcome::Accepted => {
             if rule_paths::resolve_pairs(
                 directory,
@@ -256,9 +266,29 @@ fn match_used(
     ensures { λ _. ⌜ now (out .exit) ≡ bufferAfter (rulesOf (now (directory .entry)) (now (words .entry)) (now (bytes .entry)) «fact_bytes») (fileOf (now (tree .entry)) (now (text .entry)) (now (facts .entry))) (question .rule) (question .range) (question .node) (now (out .entry)) ⌝ }
 {
     if (words.len() <= 3072) & (facts.len() <= 4096) {
-        return match_few(directory, words, bytes, fact_bytes, tree, text, facts, question, out);
+        return match_few(
+            directory,
+            words,
+            bytes,
+            fact_bytes,
+            tree,
+            text,
+            facts,
+            question,
+            out,
+        );
     }
-    match_many(directory, words, bytes, fact_bytes, tree, text, facts, question, out)
+    match_many(
+        directory,
+        words,
+        bytes,
+        fact_bytes,
+        tree,
+        text,
+        facts,
+        question,
+        out,
+    )
 }
 
 // Matching one node.

@@ -13,10 +13,8 @@ ghost use mathlib.Core.Path.{_≡_};
 ghost use mathlib.Core.Bool.{true, false};
 ghost use Prim.Native.Nat.{_*_, _/_, _≤_};
 ghost use lib.ListN.{length};
-ghost use Rattle.parsing.specs.Answers.{Fifty};
 ghost use Rattle.fragments.specs.Pairs.{pairOf, treeOf, isPresent};
-ghost use Rattle.matcher.specs.Tokens.{commaSheet};
-ghost use Rattle.prepared.specs.Rules.{Marked, Limited};
+ghost use Rattle.prepared.specs.Rules.{Marked};
 ghost use Rattle.resolving.specs.RulePaths.{sideAt, treeFails};
 ghost use Rattle.resolving.specs.Needs.{Known, Passed, Left, AllRoomy};
 ghost use Rattle.match_node.specs.RuleMatch.{rootOf, templateForm};
@@ -40,7 +38,18 @@ fn mark_form(
     requires { ⌜ length (now marks) ≡ 4 * (length (treeOf 0 form (pairOf (now row) (now words) (now bytes))) / 3) ⌝ }
     ensures { λ _. ⌜ Marked (sideAt (pairOf (now (row .entry)) (now (words .entry)) (now (bytes .entry))) 0 form) (rootOf (pairOf (now (row .entry)) (now (words .entry)) (now (bytes .entry))) 0 form) (now (marks .exit)) ⌝ }
 {
-    rule_paths::resolve_side(row, words, bytes, pattern, 0, form, index, spare, paths, calls);
+    rule_paths::resolve_side(
+        row,
+        words,
+        bytes,
+        pattern,
+        0,
+        form,
+        index,
+        spare,
+        paths,
+        calls,
+    );
     let tree = pairs::tree(row, words, 0, form);
     let code = pairs::code(row, bytes, 0);
     let text = pairs::text(row, bytes, 0);
@@ -80,11 +89,33 @@ pub fn prepare_rule(
     let pattern = parsed.pattern;
     let form = rule.form;
     let template = rule.template;
-    mark_form(row, words, bytes, pattern, form, index, spare, paths, calls, marks);
+    mark_form(
+        row,
+        words,
+        bytes,
+        pattern,
+        form,
+        index,
+        spare,
+        paths,
+        calls,
+        marks,
+    );
     let cx = limits::limits_of(pattern, token_matching::comma_sheet());
     let other = template_form(form, template);
     if other < 5 {
-        rule_paths::resolve_side(row, words, bytes, pattern, 1, other, index, spare, paths, calls);
+        rule_paths::resolve_side(
+            row,
+            words,
+            bytes,
+            pattern,
+            1,
+            other,
+            index,
+            spare,
+            paths,
+            calls,
+        );
         return cx;
     }
     cx

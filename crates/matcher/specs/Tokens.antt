@@ -7,7 +7,7 @@ use mathlib.Core.List.{List, [], _∷_}
 use lib.Dec.{eqb}
 use Rattle.words.specs.Texts.{sameText}
 use Rattle.syntax.specs.Trees.{Elems}
-use Rattle.syntax.specs.Accessors.{rest, some, textOf}
+use Rattle.syntax.specs.Accessors.{rest, textOf}
 use Rattle.siblings.specs.Siblings.{kindOf, isToken, isComment, skipTrivia}
 use Rattle.captures.specs.Attempts.{Noted, Attempt, matched}
 use Rattle.matcher.specs.declared.token_matching.Skip.{Skip}

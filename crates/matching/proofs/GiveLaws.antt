@@ -1,28 +1,26 @@
 -- What is right for each branch of the cycle, from what the functions that it calls give.
 -- Assumes nothing.
 use mathlib.Core.Path.{_≡_, refl, sym, ap, subst, _∙_}
-use mathlib.Core.Bool.{Bool, true, false, cond, not, _&&_, _||_, true≢false}
+use mathlib.Core.Bool.{Bool, true, false, true≢false}
 use mathlib.Core.List.{List, [], _∷_}
-use Prim.Native.Nat.{ℕ, suc, _+_, _*_, _≤_, _<_}
+use Prim.Native.Nat.{ℕ, suc, _+_, _*_, _≤_}
 use native.Mathlib.Omega.{arith}
 use lib.Dec.{ltb}
 use lib.ListN.{length, drop, length-drop}
 use Rattle.syntax.specs.Trees.{Elems, elems}
-use Rattle.syntax.specs.Accessors.{children, rest, numberOf, some, nodeIn, firstChild, findNode, findExpression}
-use Rattle.siblings.specs.Siblings.{kindOf, isNode, isToken, isTrivia, skipTrivia}
+use Rattle.syntax.specs.Accessors.{rest, some, nodeIn}
+use Rattle.siblings.specs.Siblings.{isNode, isToken, isTrivia, skipTrivia}
 use Rattle.captures.specs.Attempts.{Bound, Attempt, failed, matched, andThen, given}
 use Rattle.captures.specs.Effects.{binding, recordedOne, noMatch, stopped, Gives, Leads}
 use Rattle.captures.specs.Turns.{TurnOf, Steps}
 use Rattle.captures.specs.declared.State.{State}
 use Rattle.captures.specs.declared.Answer.{Answer}
 use Rattle.captures.specs.declared.Turn.{Turn}
-use Rattle.captures.proofs.AttemptLaws.{gives-event, gives-done, gives-failed, gives-end, gives-length, leads-then, fails-then, then-right}
-use Rattle.matcher.specs.declared.token_matching.Token.{Token}
+use Rattle.captures.proofs.AttemptLaws.{gives-event, gives-done, gives-failed, gives-end, leads-then, fails-then}
 use Rattle.matcher.specs.Matcher.{Matcher, slotOf}
 use Rattle.matcher.specs.Tokens.{matchesToken, afterToken, note}
 use Rattle.matcher.proofs.TokenLaws.{pass-more}
-use Rattle.calls.specs.Calls.{sameResolution}
-use Rattle.matching.specs.Matching.{capture, matchNode, matchSequences, NodeGives, SequencesGive}
+use Rattle.matching.specs.Matching.{matchNode, matchSequences, NodeGives, SequencesGive}
 use Rattle.matching.proofs.StepLaws.{by-suc, same-gives, node-takes, sequence-trivia, sequence-token, sequence-other-token, sequence-node, sequence-other}
 
 -- a failed attempt is answered by no match, whatever was laid

@@ -1,17 +1,16 @@
 -- What is right for the loops of the cycle: the end of a sequence, arguments in turn, and record fields in turn.
 -- Assumes nothing.
-use mathlib.Core.Path.{_≡_, refl, sym, ap, subst, _∙_}
-use mathlib.Core.Bool.{Bool, true, false, cond, not, _&&_, _||_, false≢true}
-use mathlib.Core.List.{List, [], _∷_}
+use mathlib.Core.Path.{_≡_, refl, sym, ap, _∙_}
+use mathlib.Core.Bool.{Bool, true, false, not, false≢true}
+use mathlib.Core.List.{List}
 use Prim.Native.Nat.{ℕ, zero, suc, _+_, _*_, _≤_, _<_}
 use native.Mathlib.Omega.{arith}
 use lib.ListN.{length, drop, length-drop}
 use Rattle.syntax.specs.Trees.{Elems, none, token, node, elems}
 use Rattle.syntax.specs.Accessors.{children, rest, some, findExpression}
-use Rattle.syntax.proofs.TreeLaws.{elems-end}
 use Rattle.siblings.specs.Siblings.{skipTrivia}
-use Rattle.captures.specs.Attempts.{Attempt, failed, matched, andThen, given}
-use Rattle.captures.specs.Effects.{noMatch, Gives}
+use Rattle.captures.specs.Attempts.{Attempt, failed, andThen, given}
+use Rattle.captures.specs.Effects.{noMatch}
 use Rattle.captures.specs.declared.State.{State}
 use Rattle.captures.specs.declared.Answer.{Answer}
 use Rattle.captures.proofs.AttemptLaws.{given-true, given-false}
@@ -20,7 +19,7 @@ use Rattle.matcher.proofs.TokenLaws.{pass-more}
 use Rattle.record_fields.specs.Fields.{patternName, areAsked, isFree, fieldFor}
 use Rattle.matching.specs.RecordFields.{matchField, matchFields}
 use Rattle.matching.specs.Matching.{matchNode, matchSequences, matchOpt, matchArguments, matchRecordFieldList, SequencesGive, OptGives, ArgumentsGive, RecordGives, FieldsGive}
-use Rattle.matching.proofs.StepLaws.{by-suc, same-gives, sequence-end, opt-pattern, arguments-end, arguments-turn}
+use Rattle.matching.proofs.StepLaws.{by-suc, same-gives, sequence-end, arguments-end, arguments-turn}
 use Rattle.matching.proofs.PlaceLaws.{some-long, some-short}
 use Rattle.matching.proofs.GiveLaws.{gives-no, gives-same, first-fails, both-match}
 

@@ -1,27 +1,24 @@
 -- One step of each definition of matching, by what its tests say.
 -- Assumes nothing.
-use mathlib.Core.Path.{_≡_, refl, sym, ap, subst, _∙_}
-use mathlib.Core.Bool.{Bool, true, false, cond, not, _&&_, _||_}
-use mathlib.Core.List.{List, [], _∷_}
-use Prim.Native.Nat.{ℕ, zero, suc, _+_, _*_, _≤_, _<_}
+use mathlib.Core.Path.{_≡_, refl, sym, subst}
+use mathlib.Core.Bool.{Bool, true, false, not, _&&_}
+use mathlib.Core.List.{List, []}
+use Prim.Native.Nat.{ℕ, zero, suc, _≤_, _<_}
 use native.Mathlib.Nat.{le-of-suc-le-suc, not-suc-le-zero}
 use lib.Dec.{eqb, ltb}
-use lib.ListN.{length}
-use Rattle.syntax.specs.Trees.{Elems, none, token, node}
+use Rattle.syntax.specs.Trees.{Elems}
 use Rattle.syntax.specs.Accessors.{children, rest, numberOf, some, nodeIn, firstChild, findExpression}
 use Rattle.siblings.specs.Siblings.{kindOf, isNode, isToken, isTrivia, skipTrivia}
 use Rattle.captures.specs.Attempts.{Attempt, failed, matched, andThen, given}
 use Rattle.captures.specs.Effects.{Gives}
 use Rattle.captures.specs.declared.State.{State}
 use Rattle.captures.specs.declared.Answer.{Answer}
-use Rattle.captures.proofs.AttemptLaws.{given-true, given-false, then-nothing}
-use Rattle.matcher.specs.Matcher.{Matcher, slotOf, isResolved, isCall, hasPlaceholderName}
+use Rattle.captures.proofs.AttemptLaws.{given-true, given-false}
+use Rattle.matcher.specs.Matcher.{Matcher, slotOf, isResolved, isCall}
 use Rattle.matcher.specs.Tokens.{matchesToken, afterToken, note}
 use Rattle.token_trees.specs.TokenTrees.{matchTokenTree}
-use Rattle.record_fields.specs.Fields.{patternName, areAsked, isFree, fieldFor}
-use Rattle.calls.specs.Calls.{callOf, argumentsOf, argumentOf, receiverOf, firstFits, sameResolution, sameFunction, takesReceiver, receiverFits, prefixed, argumentsLeft}
-use Rattle.matching.specs.RecordFields.{matchField, matchFields}
-use Rattle.matching.specs.Matching.{capture, matchNode, matchByKind, matchSequences, matchOpt, matchPath, matchSegments, matchRecordFieldList, matchUfcs, matchMethodCall, matchReceiver, matchArguments}
+use Rattle.calls.specs.Calls.{callOf, firstFits, sameResolution}
+use Rattle.matching.specs.Matching.{capture, matchNode, matchByKind, matchSequences, matchOpt, matchPath, matchSegments, matchRecordFieldList, matchUfcs, matchMethodCall, matchArguments}
 
 -- what holds at each bound above k holds where it is one more than some m that is not below k
 pub by-suc : (G : ℕ → Type 0) {k : ℕ} → ((m : ℕ) → k ≤ m → G (suc m)) → (n : ℕ) → k < n → G n

@@ -11,7 +11,7 @@ use matcher::token_matching;
 use syntax::accessors;
 use token_trees::comments;
 ghost use mathlib.Core.Path.{_≡_};
-ghost use Prim.Native.Nat.{ℕ, _+_, _*_, _≤_};
+ghost use Prim.Native.Nat.{_+_, _*_, _≤_};
 ghost use lib.ListN.{length};
 ghost use mathlib.Core.Bool.{true};
 ghost use Rattle.syntax.specs.Trees.{elems};

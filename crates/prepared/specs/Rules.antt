@@ -1,10 +1,9 @@
 -- The matcher of a rule, and what the code prepares of it.
 -- Assumes nothing.
-use Prim.Native.Nat.{ℕ, _+_, _*_, _<_, _≤_}
+use Prim.Native.Nat.{ℕ}
 use mathlib.Core.Path.{_≡_}
-use mathlib.Core.Bool.{Bool, true}
+use mathlib.Core.Bool.{Bool}
 use mathlib.Core.List.{List}
-use lib.ListN.{length}
 use Rattle.syntax.specs.Trees.{Elems, tree}
 use Rattle.paths.specs.Steps.{Side}
 use Rattle.paths.specs.Resolved.{pathAt, callAt}

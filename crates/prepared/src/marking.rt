@@ -7,7 +7,7 @@ use words::texts;
 ghost use mathlib.Core.Path.{_≡_};
 ghost use mathlib.Core.Bool.{true};
 ghost use mathlib.Core.List.{List};
-ghost use Prim.Native.Nat.{ℕ, _+_, _*_, _/_, _≤_, _<_};
+ghost use Prim.Native.Nat.{ℕ, _+_, _*_, _/_, _<_};
 ghost use lib.ListN.{length, getD};
 ghost use Rattle.syntax.specs.Trees.{tree};
 ghost use Rattle.syntax.specs.Checks.{WellFormed};

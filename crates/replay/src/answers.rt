@@ -2,6 +2,8 @@
 use ssr::NamedPlaceholder;
 use ssr::RawCode;
 use ssr::ReadTokens;
+use ssr::match_exports::BoundPlaceholder;
+use ssr::match_exports::MatchedNode;
 use ssr::rule_exports::BuiltRules;
 use ssr::rule_exports::ResolvedElement;
 use words::buffer;
@@ -100,19 +102,21 @@ pub fn is_buffer(out: &[u8], expected: &[u8]) -> bool {
     }
 }
 
-fn lay_words(out: &mut [u8], words: &[u32]) {
-    let mut next: usize = 0;
+// Lays words from a place on: the place behind them.
+fn lay_words(out: &mut [u8], at: usize, words: &[u32]) -> usize {
+    let mut next = at;
     let mut i: usize = 0;
     while i < words.len() {
         next = lay_word(out, next, words[i]);
         i += 1;
     }
+    next
 }
 
 // Whether at most nine words have the expected bytes, and then 0.
 fn is_words(words: &[u32], expected: &[u8]) -> bool {
     let mut found = [0u8; 36];
-    lay_words(&mut found, words);
+    lay_words(&mut found, 0, words);
     let mut wanted = [0u8; 36];
     match buffer::put(&mut wanted, 0, expected) {
         Placed::At(_) => texts::same_text(&found, &wanted),
@@ -147,4 +151,33 @@ pub fn is_resolved(answer: ResolvedElement, expected: &[u8]) -> bool {
         answer.contains_self,
     ];
     is_words(&words, expected)
+}
+
+fn lay_binding(out: &mut [u8], at: usize, b: BoundPlaceholder) -> usize {
+    let words = [b.bound, b.start, b.end, b.stars, b.self_kind];
+    lay_words(out, at, &words)
+}
+
+fn lay_bindings(out: &mut [u8], at: usize, answer: MatchedNode) -> usize {
+    let mut next = at;
+    let mut i: usize = 0;
+    while i < 8 {
+        let b = answer.bindings[i];
+        next = lay_binding(out, next, b);
+        i += 1;
+    }
+    next
+}
+
+// Whether the answer of matching one node has the expected bytes, and then 0.
+pub fn is_matched(answer: MatchedNode, expected: &[u8]) -> bool {
+    let mut found = [0u8; 172];
+    let words = [answer.refusal, answer.matched, low(answer.length)];
+    let next = lay_words(&mut found, 0, &words);
+    lay_bindings(&mut found, next, answer);
+    let mut wanted = [0u8; 172];
+    match buffer::put(&mut wanted, 0, expected) {
+        Placed::At(_) => texts::same_text(&found, &wanted),
+        Placed::Full => false,
+    }
 }

@@ -5,7 +5,7 @@ use words::fields;
 use words::texts;
 ghost use mathlib.Core.Path.{_≡_};
 ghost use Prim.Native.Nat.{ℕ, _+_, _*_, _≤_};
-ghost use lib.ListN.{length, drop};
+ghost use lib.ListN.{length};
 ghost use Rattle.syntax.specs.Trees.{elems};
 ghost use Rattle.token_trees.specs.Runs.{isStop, RunIs};
 

@@ -14,9 +14,8 @@ ghost use mathlib.Core.List.{List};
 ghost use mathlib.Core.Bool.{true};
 ghost use Prim.Native.Nat.{ℕ, _+_, _*_, _≤_, _<_};
 ghost use lib.ListN.{length};
-ghost use Rattle.syntax.specs.Trees.{elems};
 ghost use Rattle.captures.specs.Turns.{TurnOf, Steps};
-ghost use Rattle.matcher.specs.Matcher.{matcherOf, slotIn, isPlaceholder};
+ghost use Rattle.matcher.specs.Matcher.{matcherOf, slotIn};
 ghost use Rattle.token_trees.specs.TokenTrees.{TokensGive, RunGives, TokenTreeGives};
 
 // One turn at a placeholder, the first of the pattern's siblings: its run is bound.

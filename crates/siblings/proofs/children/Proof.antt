@@ -1,6 +1,6 @@
 -- `siblings::children` meets its contract.
 -- Assumes nothing.
-use mathlib.Core.Path.{sym, ap, _∙_}
+use mathlib.Core.Path.{sym, ap}
 use denote.Ref.{now}
 use lib.ListN.{length}
 use native.Mathlib.Omega.{arith}

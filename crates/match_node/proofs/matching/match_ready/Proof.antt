@@ -2,7 +2,7 @@
 -- Assumes nothing.
 use mathlib.Core.Bool.{true}
 use mathlib.Core.List.{[]}
-use mathlib.Core.Path.{_≡_, refl, _∙_}
+use mathlib.Core.Path.{refl}
 use Prim.Native.Nat.{_/_}
 use native.Mathlib.Omega.{arith}
 use lib.ListN.{length}
@@ -23,8 +23,13 @@ get-match-requires : tie.Need-get-match-requires
 get-match-requires c κs =
     let c₂ = c .before .before in let c₃ = c₂ .before in let c₄ = c₃ .before in let c₆ = c₄ .before .before in
     let c₁₉ = c₆ .before .before .before .before .before .before .before .before .before .before .before .before .before in
-    let s = c₁₉ in let r = s .pre .0 .1 in let e = c₄ .template-form .ensures in rw (c₆ .tree .ensures, c₂ .facts .ensures, e) ((r .formed,
-    s .pre .1 .0), (s .pre .1 .1, r .resolved (rw e at (c₃ .if1 .taken)) .indexed))
+    let s = c₁₉ in let r = s .pre .0 .1 in let e = c₄ .template-form .ensures in rw (c₆ .tree .ensures, c₂ .facts .ensures, e) (
+      (
+        r .formed,
+        s .pre .1 .0,
+      ),
+      (s .pre .1 .1, r .resolved (rw e at (c₃ .if1 .taken)) .indexed),
+    )
 
 returns : tie.Need-returns
 returns c =
@@ -33,12 +38,17 @@ returns c =
     let c₂₂ = c₉ .before .before .before .before .before .before .before .before .before .before .before .before .before in
     let s = c₂₂ in let a = s .args in let p : Pair = pairOf (now (a .row)) (now (a .words)) (now (a .bytes)) in let r = s .pre .0 .1 in let form =
     a .rule .form in let e = c₇ .template-form .ensures in let h = rw e at (c₆ .if1 .taken) in let k = templateForm form (a .rule .template) in let u
-    = r .resolved h in let g = c₂ .get-match in let el = c₉ .tree .ensures in (g .ensures .0, gives-as (attempt-is p (a .rule) (now (a .text)) (now
-    (a .tree)) (now (a .facts)) (a .question .range) (a .question .node) (now (c₉ .tree .result)) (now (c₈ .code .result)) (renders (length (now
-    (c₄ .tree2 .result)) / 3) (sideAt p 1 k) (rootOf p 1 k) (now (a .facts)) (a .question .node)) r el (c₈ .code .ensures) (rw (c₄ .tree2 .ensures,
-    e) (renders-there p form (now (a .tree)) (now (a .text)) (now (a .facts)) (a .question .node) (a .rule .template) h))) (g .ensures .1 (sideAt p 1
-    k) (rootOf p 1 k) (u .calls) (rw (c₅ .facts .ensures, e)) (rw (c₄ .tree2 .ensures, e) (u .tables)) (calls p form (fileOf (now (a .tree)) (now
-    (a .text)) (now (a .facts)))) (rw el (omega arith))))
+    = r .resolved h in let g = c₂ .get-match in let el = c₉ .tree .ensures in (
+      g .ensures .0,
+      gives-as (attempt-is p (a .rule) (now (a .text)) (now
+          (a .tree)) (now (a .facts)) (a .question .range) (a .question .node) (now (c₉ .tree .result)) (now (c₈ .code .result)) (renders (length (now
+          (c₄ .tree2 .result)) / 3) (sideAt p 1 k) (rootOf p 1 k) (now (a .facts)) (a .question .node)) r el (c₈ .code .ensures) (rw (
+            c₄ .tree2 .ensures,
+            e,
+          ) (renders-there p form (now (a .tree)) (now (a .text)) (now (a .facts)) (a .question .node) (a .rule .template) h))) (g .ensures .1 (sideAt p 1
+          k) (rootOf p 1 k) (u .calls) (rw (c₅ .facts .ensures, e)) (rw (c₄ .tree2 .ensures, e) (u .tables)) (calls p form (fileOf (now (a .tree)) (now
+          (a .text)) (now (a .facts)))) (rw el (omega arith))),
+    )
 
 get-match-requires-2 : tie.Need-get-match-requires-2
 get-match-requires-2 c κs =
@@ -52,11 +62,13 @@ returns-2 c =
     let c₈ = c₇ .before in
     let c₂₁ = c₈ .before .before .before .before .before .before .before .before .before .before .before .before .before in
     let s = c₂₁ in let a = s .args in let p : Pair = pairOf (now (a .row)) (now (a .words)) (now (a .bytes)) in let r = s .pre .0 .1 in let form =
-    a .rule .form in let e = c₆ .template-form .ensures in let h = rw e at (c₅ .if1 .left) in let g = c₂ .get-match2 in let el = c₈ .tree .ensures in
-    (g .ensures .0, gives-as (attempt-is p (a .rule) (now (a .text)) (now (a .tree)) (now (a .facts)) (a .question .range) (a .question .node) (now
-    (c₈ .tree .result)) (now (c₇ .code .result)) true r el (c₇ .code .ensures) (renders-absent p form (now (a .tree)) (now (a .text)) (now
-    (a .facts)) (a .question .node) (a .rule .template) h (s .pre .0 .0))) (g .ensures .1 (sideOf [] [] [] []) none [] refl (no-tables _) (calls p
-    form (fileOf (now (a .tree)) (now (a .text)) (now (a .facts)))) (rw el (omega arith))))
+    a .rule .form in let e = c₆ .template-form .ensures in let h = rw e at (c₅ .if1 .left) in let g = c₂ .get-match2 in let el = c₈ .tree .ensures in (
+      g .ensures .0,
+      gives-as (attempt-is p (a .rule) (now (a .text)) (now (a .tree)) (now (a .facts)) (a .question .range) (a .question .node) (now
+          (c₈ .tree .result)) (now (c₇ .code .result)) true r el (c₇ .code .ensures) (renders-absent p form (now (a .tree)) (now (a .text)) (now
+          (a .facts)) (a .question .node) (a .rule .template) h (s .pre .0 .0))) (g .ensures .1 (sideOf [] [] [] []) none [] refl (no-tables _) (calls p
+          form (fileOf (now (a .tree)) (now (a .text)) (now (a .facts)))) (rw el (omega arith))),
+    )
 
 pub match-ready-spec : {M : Type 1} → statement M
 match-ready-spec =

@@ -1,6 +1,6 @@
 -- `match_node::matching::match_rule` meets its contract.
 -- Assumes nothing.
-use mathlib.Core.List.{List, _++_}
+use mathlib.Core.List.{List}
 use mathlib.Core.Path.{_≡_, sym, _∙_}
 use Prim.Native.Nat.{ℕ, _*_, _/_, _≤_}
 use native.Mathlib.Omega.{arith}
@@ -66,8 +66,13 @@ match-ready-requires c κs =
     let c₃₄ = c₂₀ .before .before .before .before .before .before .before .before .before .before .before .before .before .before in
     let s = c₃₄ in let t = c₂₀ .tree in let k = c₁₄ .prepare-rule .kept in let n = length-take-le (length (now (t .result)) / 3 * 4) (now
     (s .args .marks)) (room s (now (t .result)) (t .ensures)) in rw (take-at _ (drop (length (now (t .result)) / 3 * 4) (now (s .args .marks)))
-    (length (now (t .result)) / 3 * 4) (k .1 .1 .1 .1 .1 .1 .1 .1 .0 ∙ n)) ((s .pre .0 .0 .low, c₁₄ .prepare-rule .ensures), (s .pre .1 .1,
-    s .pre .1 .2))
+    (length (now (t .result)) / 3 * 4) (k .1 .1 .1 .1 .1 .1 .1 .1 .0 ∙ n)) (
+      (s .pre .0 .0 .low, c₁₄ .prepare-rule .ensures),
+      (
+        s .pre .1 .1,
+        s .pre .1 .2,
+      ),
+    )
 
 pub match-rule-spec : {M : Type 1} → statement M
 match-rule-spec =

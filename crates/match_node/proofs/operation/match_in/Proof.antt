@@ -1,6 +1,6 @@
 -- `match_node::operation::match_in` meets its contract.
 -- Assumes nothing.
-use mathlib.Core.Path.{_≡_, refl, sym, _∙_}
+use mathlib.Core.Path.{refl, sym, _∙_}
 use native.Mathlib.Nat.{le-refl}
 use lib.ListN.{length}
 use borrow.Author.Needs.{needs}
@@ -15,9 +15,11 @@ resolve-pairs-requires : tie.Need-resolve-pairs-requires
 resolve-pairs-requires c κs =
     let c₄ = c .before .before .before .before in let c₁₀ = c₄ .before .before .before .before .before .before in
     let c₂₆ = c₁₀ .before .before .before .before .before .before .before .before .before .before .before .before .before .before .before .before in
-    let s = c₂₆ in let a = s .args in let e = sym (c₁₀ .check-given .ensures .0) ∙ c₄ .enum-told .given .1 in let k = c₁₀ .check-given .kept in
-    (trees-accepted (rulesOf (now (a .directory)) (now (a .words)) (now (a .bytes)) (a .fact-bytes)) (fileOf (now (a .tree)) (now (a .text)) (now
-    (a .facts))) e, roomy-after _ _ _ _ _ (s .pre .0 .0) (le-refl _) refl (k .1 .1 .1 .1 .1 .1 .1 .1 .0) refl refl)
+    let s = c₂₆ in let a = s .args in let e = sym (c₁₀ .check-given .ensures .0) ∙ c₄ .enum-told .given .1 in let k = c₁₀ .check-given .kept in (
+      trees-accepted (rulesOf (now (a .directory)) (now (a .words)) (now (a .bytes)) (a .fact-bytes)) (fileOf (now (a .tree)) (now (a .text)) (now
+          (a .facts))) e,
+      roomy-after _ _ _ _ _ (s .pre .0 .0) (le-refl _) refl (k .1 .1 .1 .1 .1 .1 .1 .1 .0) refl refl,
+    )
 
 match-asked-requires : tie.Need-match-asked-requires
 match-asked-requires c κs =
@@ -26,11 +28,25 @@ match-asked-requires c κs =
     let c₂₁ = c₁₆ .before .before .before .before .before in let c₂₇ = c₂₁ .before .before .before .before .before .before in
     let c₄₃ = c₂₇ .before .before .before .before .before .before .before .before .before .before .before .before .before .before .before .before in
     let s = c₄₃ in let a = s .args in let e = sym (c₂₇ .check-given .ensures .0) ∙ c₂₁ .enum-told .given .1 in let k = c₂₇ .check-given .kept in let
-    m = c₁₆ .resolve-pairs .kept in let g = c₂₇ .check-given .ensures .1 (c₂₁ .enum-told .given .1) in ((trees-accepted (rulesOf (now (a .directory))
-    (now (a .words)) (now (a .bytes)) (a .fact-bytes)) (fileOf (now (a .tree)) (now (a .text)) (now (a .facts))) e, not-true _ (sym (c₇ .if1 .taken)
-    ∙ c₁₆ .resolve-pairs .ensures)), ((roomy-after _ _ _ _ _ (s .pre .0 .0) (le-refl _) (m .1 .1 .1 .1 .0) (m .1 .1 .1 .1 .1 .0 ∙
-    k .1 .1 .1 .1 .1 .1 .1 .1 .0) (m .1 .1 .1 .1 .1 .1 .0) (m .1 .1 .1 .1 .1 .1 .1 .0), s .pre .0 .1), (record { formed = g .0; indexed = g .1 },
-    s .pre .1 .1)))
+    m = c₁₆ .resolve-pairs .kept in let g = c₂₇ .check-given .ensures .1 (c₂₁ .enum-told .given .1) in (
+      (
+        trees-accepted (rulesOf (now (a .directory))
+            (now (a .words)) (now (a .bytes)) (a .fact-bytes)) (fileOf (now (a .tree)) (now (a .text)) (now (a .facts))) e,
+        not-true _ (sym (c₇ .if1 .taken)
+            ∙ c₁₆ .resolve-pairs .ensures),
+      ),
+      (
+        (
+          roomy-after _ _ _ _ _ (s .pre .0 .0) (le-refl _) (m .1 .1 .1 .1 .0) (m .1 .1 .1 .1 .1 .0 ∙
+              k .1 .1 .1 .1 .1 .1 .1 .1 .0) (m .1 .1 .1 .1 .1 .1 .0) (m .1 .1 .1 .1 .1 .1 .1 .0),
+          s .pre .0 .1,
+        ),
+        (
+          record { formed = g .0; indexed = g .1 },
+          s .pre .1 .1,
+        ),
+      ),
+    )
 
 same-length-2 : tie.Need-same-length-2
 same-length-2 c =
@@ -42,7 +58,6 @@ same-length-2 c =
 
 same-length-6 : tie.Need-same-length-6
 same-length-6 c =
-   
     let c₄₀ = c .before .before .before .before .before .before .before .before .before .before .before .before .before .before .before .before .before .before .before .before .before .before .before .before .before .before .before .before .before .before .before .before .before .before .before .before .before .before .before .before in
     c₄₀ .check-given .kept .1 .1 .1 .1 .1 .1 .1 .0
 
@@ -60,7 +75,6 @@ returns c =
 
 refuse-requires : tie.Need-refuse-requires
 refuse-requires c κs =
-   
     let c₃₇ = c .before .before .before .before .before .before .before .before .before .before .before .before .before .before .before .before .before .before .before .before .before .before .before .before .before .before .before .before .before .before .before .before .before .before .before .before .before in
     c₃₇ .pre .1 .1
 

@@ -1,8 +1,6 @@
 -- `match_node::operation::match_node` meets its contract.
 -- Assumes nothing.
-use mathlib.Core.List.{_++_}
-use mathlib.Core.Path.{_≡_, sym, _∙_}
-use Prim.Native.Nat.{_≤_}
+use mathlib.Core.Path.{_≡_, sym}
 use native.Mathlib.Omega.{arith}
 use lib.Seq.{length-take-le}
 use lib.ListN.{length, take}
@@ -37,8 +35,11 @@ returns c =
     let c₁₂ = c₄ .before .before .before .before .before .before .before .before in
     let a = c₁₂ .args in let d = now (a .out) in let u = c₄ .used .ensures in let l : length (take (usedOf (length d)) d) ≡ usedOf (length d) =
     length-take-le (usedOf (length d)) d (used-within (length d)) in let q = rulesOf (now (a .directory)) (now (a .words)) (now (a .bytes))
-    (a .fact-bytes) in let f = fileOf (now (a .tree)) (now (a .text)) (now (a .facts)) in let m = rw u at (c₂ .match-used .ensures) in (rw l at
-    (m .0), rw u (buffer-part q f (a .question .rule) (a .question .range) (a .question .node) d _ (m .1)))
+    (a .fact-bytes) in let f = fileOf (now (a .tree)) (now (a .text)) (now (a .facts)) in let m = rw u at (c₂ .match-used .ensures) in (
+      rw l at
+          (m .0),
+      rw u (buffer-part q f (a .question .rule) (a .question .range) (a .question .node) d _ (m .1)),
+    )
 
 pub match-node-spec : {M : Type 1} → statement M
 match-node-spec =

@@ -16,7 +16,6 @@ resolve-side-requires c κs =
 
 facts-requires : tie.Need-facts-requires
 facts-requires c κs =
-   
     let c₂₄ = c .before .before .before .before .before .before .before .before .before .before .before .before .before .before .before .before .before .before .before .before .before .before .before .before in
     let s = c₂₄ in (omega arith, s .pre .0 .0)
 
@@ -26,8 +25,14 @@ mark-pattern-requires c κs =
     let c₁₆ = c₇ .before .before .before .before .before .before .before .before .before in
     let c₂₉ = c₁₆ .before .before .before .before .before .before .before .before .before .before .before .before .before in
     let s = c₂₉ in let a = s .args in let p : Pair = pairOf (now (a .row)) (now (a .words)) (now (a .bytes)) in let wf = tree-formed p 0 (a .form)
-    (omega arith) (s .pre .0 .0) (s .pre .1 .0 .0) (s .pre .0 .2) in rw (c₇ .tree .ensures, c₄ .facts .ensures) ((wf, s .pre .0 .1 .eight,
-    c₁₆ .resolve-side .ensures .0), s .pre .1 .1)
+    (omega arith) (s .pre .0 .0) (s .pre .1 .0 .0) (s .pre .0 .2) in rw (c₇ .tree .ensures, c₄ .facts .ensures) (
+      (
+        wf,
+        s .pre .0 .1 .eight,
+        c₁₆ .resolve-side .ensures .0,
+      ),
+      s .pre .1 .1,
+    )
 
 returns : tie.Need-returns
 returns c =

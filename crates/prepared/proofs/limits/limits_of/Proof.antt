@@ -37,15 +37,25 @@ has-remainder-requires-2 c κs =
 loop-again : tie.Need-loop-again Inv-loop μ-loop
 loop-again c =
     let c₁ = c .before in let c₂ = c₁ .before in let c₄ = c₂ .before .before in let c₅ = c₄ .before in
-    let s = c₅ in let l = c₄ .loop in (omega arith, c₂ .end-of .ensures .1, simp length-set (l .inv .2), simp length-set (l .inv .3), λ vs q.
-    passed-more (s .args .t1) vs q (fifty s) (l .slot) (l .at) (c₂ .end-of .result) (l .literal) (l .other) (omega arith) (omega arith)
-    (c₂ .end-of .ensures .2) _ _ (c₁ .has-remainder .ensures) (c .has-remainder2 .ensures) (l .inv .4 vs q))
+    let s = c₅ in let l = c₄ .loop in (
+      omega arith,
+      c₂ .end-of .ensures .1,
+      simp length-set (l .inv .2),
+      simp length-set (l .inv .3),
+      λ vs q.
+          passed-more (s .args .t1) vs q (fifty s) (l .slot) (l .at) (c₂ .end-of .result) (l .literal) (l .other) (omega arith) (omega arith)
+          (c₂ .end-of .ensures .2) _ _ (c₁ .has-remainder .ensures) (c .has-remainder2 .ensures) (l .inv .4 vs q),
+    )
 
 returns : tie.Need-returns Inv-loop μ-loop
 returns c =
     let c₁ = c .before in let c₂ = c₁ .before in
-    let s = c₂ in let l = c₁ .loop in let e : l .slot ≡ 8 = omega arith in λ vs text code facts q. limited vs (omega (arith, count-of (s .args .t1)
-    vs [] q, s .pre .few)) text code facts (s .args .sheet) _ (l .at) refl (l .inv .2) (l .inv .3) (rw e at (l .inv .4 vs q))
+    let s = c₂ in let l = c₁ .loop in let e : l .slot ≡ 8 = omega arith in λ vs text code facts q. limited vs (omega (
+      arith,
+      count-of (s .args .t1)
+          vs [] q,
+      s .pre .few,
+    )) text code facts (s .args .sheet) _ (l .at) refl (l .inv .2) (l .inv .3) (rw e at (l .inv .4 vs q))
 
 pub limits-of-spec : {M : Type 1} → statement M
 limits-of-spec =

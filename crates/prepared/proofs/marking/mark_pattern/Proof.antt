@@ -44,10 +44,14 @@ loop-again : tie.Need-loop-again Inv-loop μ-loop
 loop-again c =
     let c₁ = c .before in let c₂ = c₁ .before in let c₃ = c₂ .before in let c₅ = c₃ .before .before in
     let c₁₄ = c₅ .before .before .before .before .before .before .before .before .before in
-    let s = c₁₄ in let a = s .args in let l = c₅ .loop in let m = l .marks in let e = l .e in let room = s .pre .1 in (omega arith, l .inv .1,
-    stored-length m e _ _ _ _ ∙ l .inv .2, λ vs ns q. words-more (sideOf (now (a .text)) vs (now (a .code)) (now (a .facts))) (tree (now (a .words)))
-    (now (a .paths)) (now (a .calls)) m e _ _ _ _ (omega arith) (c₃ .slot-mark .ensures vs ns (now (a .facts)) q) (c₂ .path-mark .ensures)
-    (c₁ .function-mark .ensures) (c .type-mark .ensures) (l .inv .3 vs ns q))
+    let s = c₁₄ in let a = s .args in let l = c₅ .loop in let m = l .marks in let e = l .e in let room = s .pre .1 in (
+      omega arith,
+      l .inv .1,
+      stored-length m e _ _ _ _ ∙ l .inv .2,
+      λ vs ns q. words-more (sideOf (now (a .text)) vs (now (a .code)) (now (a .facts))) (tree (now (a .words)))
+          (now (a .paths)) (now (a .calls)) m e _ _ _ _ (omega arith) (c₃ .slot-mark .ensures vs ns (now (a .facts)) q) (c₂ .path-mark .ensures)
+          (c₁ .function-mark .ensures) (c .type-mark .ensures) (l .inv .3 vs ns q),
+    )
 
 same-length : tie.Need-same-length Inv-loop μ-loop
 same-length c = c .before .loop .inv .2
@@ -55,9 +59,15 @@ same-length c = c .before .loop .inv .2
 returns : tie.Need-returns Inv-loop μ-loop
 returns c =
     let c₁ = c .before in let c₁₀ = c₁ .before .before .before .before .before .before .before .before .before in
-    let s = c₁₀ in let a = s .args in let l = c₁ .loop in (l .inv .2, λ vs ns q t. marked (sideOf (now (a .text)) vs (now (a .code)) (now
-    (a .facts))) (now (a .words)) (now (a .paths)) (now (a .calls)) (l .marks) (s .pre .0 .0) (omega (arith, count-of (a .pattern) vs ns q,
-    s .pre .0 .1 .few)) (l .inv .2 ∙ s .pre .1) t (λ e h. l .inv .3 vs ns q e (omega arith)))
+    let s = c₁₀ in let a = s .args in let l = c₁ .loop in (
+      l .inv .2,
+      λ vs ns q t. marked (sideOf (now (a .text)) vs (now (a .code)) (now
+          (a .facts))) (now (a .words)) (now (a .paths)) (now (a .calls)) (l .marks) (s .pre .0 .0) (omega (
+            arith,
+            count-of (a .pattern) vs ns q,
+            s .pre .0 .1 .few,
+          )) (l .inv .2 ∙ s .pre .1) t (λ e h. l .inv .3 vs ns q e (omega arith)),
+    )
 
 pub mark-pattern-spec : {M : Type 1} → statement M
 mark-pattern-spec =

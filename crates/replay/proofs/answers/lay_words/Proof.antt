@@ -8,10 +8,10 @@ use Rattle.replay.proofs.answers.lay_words.Statement.{statement}
 use Rattle.replay.proofs.answers.lay_words.Tie as tie
 
 abbrev Inv-loop : tie.InvT-loop
-Inv-loop out₀ words next₀ i₀ out next i = (i ≤ length words) × (length out ≡ length out₀)
+Inv-loop out₀ at words next₀ i₀ out next i = (i ≤ length words) × (length out ≡ length out₀)
 
 abbrev μ-loop : tie.MeasureT-loop
-μ-loop out₀ words next₀ i₀ out next i = length words - i
+μ-loop out₀ at words next₀ i₀ out next i = length words - i
 
 loop-holds : tie.Need-loop-holds Inv-loop μ-loop
 loop-holds c = search needs

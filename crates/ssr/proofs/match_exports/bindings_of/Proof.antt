@@ -44,8 +44,12 @@ loop-less c = omega arith
 loop-again : tie.Need-loop-again Inv-loop μ-loop
 loop-again c =
     let c₃ = c .before .before .before in let c₄ = c₃ .before in
-    let s = c₄ in let l = c₃ .loop in let e = eight s in (omega arith, simp length-set (l .inv .1), rw (c .bound-numbers .ensures) (next-made
-    boundNumbers unbound (s .args .t1) (l .numbers) (l .i) (l .inv .2) (omega arith) (omega arith)))
+    let s = c₄ in let l = c₃ .loop in let e = eight s in (
+      omega arith,
+      simp length-set (l .inv .1),
+      rw (c .bound-numbers .ensures) (next-made
+          boundNumbers unbound (s .args .t1) (l .numbers) (l .i) (l .inv .2) (omega arith) (omega arith)),
+    )
 
 returns : tie.Need-returns Inv-loop μ-loop
 returns c =
