@@ -31,3 +31,13 @@ unfoldable pub comments : List Event → List ℕ
 comments [] = []
 comments (Bound slot b ∷ es) = comments es
 comments (Noted t ∷ es) = t ++ comments es
+
+-- the comments noted, as events
+unfoldable pub notes : List Event → List Event
+notes [] = []
+notes (Bound slot b ∷ es) = notes es
+notes (Noted t ∷ es) = Noted t ∷ notes es
+
+abbrev pub notesOf : Attempt → List Event
+notesOf failed = []
+notesOf (matched es) = notes es

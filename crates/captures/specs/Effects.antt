@@ -1,9 +1,9 @@
--- What the code keeps while it matches: eight bindings, the place behind the comments laid so far, and the buffer they are laid in. Every
--- attempt acts on these as its events say, one after the other.
+-- What the code keeps while it matches: eight bindings, the place behind the comments noted so far, and the buffer they are laid in, unless
+-- they are only measured. Every attempt acts on these as its events say, one after the other.
 -- Assumes nothing.
 use Prim.Native.Nat.{ℕ, _+_}
 use mathlib.Core.Path.{_≡_}
-use mathlib.Core.Bool.{true, false, cond}
+use mathlib.Core.Bool.{Bool, true, false, cond}
 use mathlib.Core.List.{List, [], _∷_}
 use lib.Dec.{leb}
 use lib.ListN.{length, set, replicate}
@@ -25,7 +25,11 @@ unbound = record { bound = false; start = 0; end = 0; stars = 0; «self_kind» =
 
 -- no binding and no comment
 abbrev pub nothing : State
-nothing = record { bindings = replicate 8 unbound; noted = 0 }
+nothing = record { bindings = replicate 8 unbound; noted = 0; lays = true }
+
+-- the same bindings, with comments laid, or only measured, from a place on
+abbrev pub movedTo : ℕ → Bool → State → State
+movedTo at lays s = record { bindings = s .bindings; noted = at; lays = lays }
 
 -- the place behind n bytes more in a room, or one past the room where they do not fit
 abbrev pub placeBehind : ℕ → ℕ → ℕ → ℕ
@@ -33,8 +37,8 @@ placeBehind room at n = cond (leb (at + n) room) (at + n) (room + 1)
 
 -- one event, and events in turn, with room for so many bytes of comments
 abbrev pub recordedOne : ℕ → Event → State → State
-recordedOne room (Bound slot b) s = record { bindings = set (s .bindings) slot b; noted = s .noted }
-recordedOne room (Noted t) s = record { bindings = s .bindings; noted = placeBehind room (s .noted) (length t) }
+recordedOne room (Bound slot b) s = record { bindings = set (s .bindings) slot b; noted = s .noted; lays = s .lays }
+recordedOne room (Noted t) s = movedTo (placeBehind room (s .noted) (length t)) (s .lays) s
 
 unfoldable pub recorded : ℕ → List Event → State → State
 recorded room [] s = s
@@ -43,7 +47,7 @@ recorded room (e ∷ es) s = recorded room es (recordedOne room e s)
 -- the buffer then
 abbrev pub laidOne : Event → State → List ℕ → List ℕ
 laidOne (Bound slot b) s out = out
-laidOne (Noted t) s out = laidIfRoom out (s .noted) t
+laidOne (Noted t) s out = cond (s .lays) (laidIfRoom out (s .noted) t) out
 
 unfoldable pub laidBy : List Event → State → List ℕ → List ℕ
 laidBy [] s out = out

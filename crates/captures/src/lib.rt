@@ -1,17 +1,18 @@
 // What matching records. Document 01: "an array of eight bindings, by value, in pattern order".
 use syntax::accessors;
 use words::buffer;
-use words::buffer::Placed;
 use words::fields;
 use words::texts;
 ghost use mathlib.Core.Path.{_≡_};
 ghost use mathlib.Core.Bool.{true};
-ghost use Prim.Native.Nat.{ℕ, _≤_, _<_};
-ghost use lib.ListN.{length};
+ghost use mathlib.Core.List.{List};
+ghost use Prim.Native.Nat.{ℕ, _+_, _-_, _≤_, _<_};
+ghost use lib.ListN.{length, take, drop};
+ghost use Rattle.words.specs.Buffer.{laid};
 ghost use Rattle.syntax.specs.Trees.{elems};
 ghost use Rattle.syntax.specs.Accessors.{textOf};
-ghost use Rattle.captures.specs.Attempts.{Bound, Noted};
-ghost use Rattle.captures.specs.Effects.{binding, nothing, recordedOne, laidOne, noMatch, stopped};
+ghost use Rattle.captures.specs.Attempts.{Event, Bound, Noted, notes};
+ghost use Rattle.captures.specs.Effects.{binding, nothing, movedTo, placeBehind, recordedOne, recorded, laidOne, noMatch, stopped};
 
 // A placeholder's binding: its bytes in the file, and for a receiver how often it is dereferenced and how the function takes it (0 owned,
 // 1 `&`, 2 `&mut`).
@@ -23,10 +24,12 @@ pub struct Binding {
     pub self_kind: u32,
 }
 
-// The bindings so far, and the place behind the comments laid so far; past the buffer's end where one did not fit.
+// The bindings so far, the place behind the comments noted so far, past the buffer's end where one did not fit, and whether they are laid or
+// only measured.
 pub struct State {
     pub bindings: [Binding; 8],
     pub noted: usize,
+    pub lays: bool,
 }
 
 // Whether there is a match, with the state then.
@@ -57,6 +60,7 @@ pub fn start() -> State
     State {
         bindings: [unbound; 8],
         noted: 0,
+        lays: true,
     }
 }
 
@@ -106,22 +110,77 @@ pub fn bind(s: State, slot: usize, first: &[u32], last: &[u32], stars: u32, self
     t
 }
 
-// Notes the comment that a part begins with: its text is laid behind those noted so far.
+// The same bindings, with comments laid, or only measured, from a place on.
+pub fn moved(s: State, at: usize, lays: bool) -> State
+    ensures { λ r. ⌜ r ≡ movedTo at lays s ⌝ }
+{
+    let mut t = s;
+    t.noted = at;
+    t.lays = lays;
+    t
+}
+
+// The place behind n bytes more, or the one that is past the room where they do not fit.
+fn place_behind(past: usize, at: usize, n: usize) -> usize
+    ensures { λ r. ⌜ ((room : ℕ) → past ≡ room + 1 → r ≡ placeBehind room at n) ⌝ }
+{
+    if past <= at {
+        return past;
+    }
+    if past - at <= n {
+        return past;
+    }
+    at + n
+}
+
+// Notes the comment that a part begins with: its text is laid, or measured, behind those noted so far.
 pub fn note(s: State, c: &[u32], file: &[u8], out: &mut [u8]) -> State
     ensures { λ _. ⌜ length (now (out .exit)) ≡ length (now (out .entry)) ⌝ }
     ensures { λ r. ⌜ ((i : ℕ) → r ≡ recordedOne (length (now (out .entry))) (Noted (textOf (now (file .entry)) (elems i (now (c .entry))))) s) ⌝ }
     ensures { λ _. ⌜ ((i : ℕ) → now (out .exit) ≡ laidOne (Noted (textOf (now (file .entry)) (elems i (now (c .entry))))) s (now (out .entry))) ⌝ }
 {
     let range = accessors::range_of(c);
-    let full = out.len() + 1;
-    let mut t = s;
-    match buffer::put(out, s.noted, texts::part_of(file, range.start, range.end)) {
-        Placed::At(at) => {
-            t.noted = at;
-        }
-        Placed::Full => {
-            t.noted = full;
-        }
+    let text = texts::part_of(file, range.start, range.end);
+    let past = out.len() + 1;
+    let at = place_behind(past, s.noted, text.len());
+    if s.lays {
+        buffer::put(out, s.noted, text);
+        return moved(s, at, true);
+    }
+    moved(s, at, false)
+}
+
+// Counts the comments noted since a state once more.
+pub fn count_again(s: State, t: State, past: usize) -> State
+    ensures { λ r. ⌜ ((room : ℕ) (es : List Event) → past ≡ room + 1 → t ≡ recorded room es s → r ≡ recorded room (notes es) t) ⌝ }
+{
+    if (t.noted < past) & (s.noted <= t.noted) {
+        return moved(t, place_behind(past, t.noted, t.noted - s.noted), t.lays);
     }
     t
+}
+
+// Whether the bytes between two places fit once more at a third.
+pub fn fits(from: usize, end: usize, at: usize, room: usize) -> bool
+    ensures { λ r. ⌜ (r ≡ true → (from ≤ end) × (at + (end - from) ≤ room)) ⌝ }
+{
+    if end < from {
+        return false;
+    }
+    if room < at {
+        return false;
+    }
+    end - from <= room - at
+}
+
+// Lays bytes of the buffer once more, at a place behind them.
+pub fn lay_again(out: &mut [u8], from: usize, n: usize, at: usize)
+    requires { ⌜ (from + n ≤ at) × (at + n ≤ length (now out)) ⌝ }
+    ensures { λ _. ⌜ now (out .exit) ≡ laid (now (out .entry)) at (take n (drop from (now (out .entry)))) ⌝ }
+{
+    let mut i = 0;
+    while i < n {
+        out[at + i] = out[from + i];
+        i += 1;
+    }
 }

@@ -11,17 +11,12 @@ use Rattle.words.proofs.TestLaws.{and-both}
 use Rattle.syntax.specs.Trees.{Elems, elems}
 use Rattle.syntax.specs.Accessors.{rest, textOf}
 use Rattle.siblings.specs.Siblings.{kindOf, isToken, skipTrivia}
-use Rattle.siblings.proofs.SiblingLaws.{some-token, long-some}
 use Rattle.matcher.specs.declared.token_matching.Sheet.{Sheet}
 use Rattle.matcher.specs.Tokens.{agree, skips, isExtra, pastSeparator, isSameToken, matchesToken, afterToken}
 
 -- a token that agrees is one
 pub same-token-is : (code text : List ℕ) (p c : Elems) → isSameToken code text p c ≡ true → isToken p ≡ true
 same-token-is code text p c h = and-both (isToken p) (agree (kindOf p) (textOf code p) (kindOf c) (textOf text c)) h .0
-
--- a part that begins with a token has its three words
-pub token-long : (i : ℕ) (l : List ℕ) → isToken (elems i l) ≡ true → 3 ≤ length l
-token-long i l h = long-some i l (some-token (elems i l) h)
 
 -- passing some elements and then others
 pub pass-more : (i n m : ℕ) (l : List ℕ) → elems (i + (n + m)) (drop ((n + m) * 3) l) ≡ elems (i + n + m) (drop (m * 3) (drop (n * 3) l))

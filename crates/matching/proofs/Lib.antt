@@ -4,3 +4,13 @@ pub mod PlaceLaws
 pub mod GiveLaws
 pub mod LoopLaws
 pub mod CallLaws
+pub mod FuelLaws
+pub mod BesideLaws
+pub mod OverLaws
+pub mod AlongLaws
+pub mod TurnLaws
+pub mod MeasureLaws
+pub mod MeasuredLaws
+pub mod StandLaws
+pub mod LaidLaws
+pub mod NameLaws

@@ -1,24 +1,20 @@
--- What is right for the loops of the cycle: the end of a sequence, arguments in turn, and record fields in turn.
+-- What is right for the loops of the cycle: the end of a sequence, and arguments in turn.
 -- Assumes nothing.
 use mathlib.Core.Path.{_≡_, refl, sym, ap, _∙_}
-use mathlib.Core.Bool.{Bool, true, false, not, false≢true}
+use mathlib.Core.Bool.{Bool, true, false, not}
 use mathlib.Core.List.{List}
 use Prim.Native.Nat.{ℕ, zero, suc, _+_, _*_, _≤_, _<_}
 use native.Mathlib.Omega.{arith}
 use lib.ListN.{length, drop, length-drop}
-use Rattle.syntax.specs.Trees.{Elems, none, token, node, elems}
-use Rattle.syntax.specs.Accessors.{children, rest, some, findExpression}
+use Rattle.syntax.specs.Trees.{Elems, elems}
+use Rattle.syntax.specs.Accessors.{rest, some, findExpression}
 use Rattle.siblings.specs.Siblings.{skipTrivia}
 use Rattle.captures.specs.Attempts.{Attempt, failed, andThen, given}
 use Rattle.captures.specs.Effects.{noMatch}
 use Rattle.captures.specs.declared.State.{State}
 use Rattle.captures.specs.declared.Answer.{Answer}
-use Rattle.captures.proofs.AttemptLaws.{given-true, given-false}
-use Rattle.matcher.specs.Matcher.{Matcher, hasPlaceholderName}
-use Rattle.matcher.proofs.TokenLaws.{pass-more}
-use Rattle.record_fields.specs.Fields.{patternName, areAsked, isFree, fieldFor}
-use Rattle.matching.specs.RecordFields.{matchField, matchFields}
-use Rattle.matching.specs.Matching.{matchNode, matchSequences, matchOpt, matchArguments, matchRecordFieldList, SequencesGive, OptGives, ArgumentsGive, RecordGives, FieldsGive}
+use Rattle.matcher.specs.Matcher.{Matcher}
+use Rattle.matching.specs.Matching.{matchNode, matchOpt, matchArguments, SequencesGive, OptGives, ArgumentsGive}
 use Rattle.matching.proofs.StepLaws.{by-suc, same-gives, sequence-end, arguments-end, arguments-turn}
 use Rattle.matching.proofs.PlaceLaws.{some-long, some-short}
 use Rattle.matching.proofs.GiveLaws.{gives-no, gives-same, first-fails, both-match}
@@ -101,85 +97,3 @@ module _ (x : Matcher) (pe : ℕ) (p : List ℕ) (ce : ℕ) (c : List ℕ) (s : 
     where
       number : (a b d : ℕ) → a + (b + d) ≡ a + b + d
       number a b d = omega arith
-
--- ---- record fields in turn
-fields-step : (f : Elems → Elems → Attempt) (o : Attempt) (x : Matcher) (ps cs q : Elems) → some q ≡ true
-    → matchFields f o x ps cs q ≡ matchField f o x ps cs q (matchFields f o x ps cs (rest q))
-unfolding matchFields
-fields-step f o x ps cs none h = absurd (false≢true h)
-fields-step f o x ps cs (token i k s e r) h = refl
-fields-step f o x ps cs (node i k s e ds r) h = refl
-
-fields-end : (f : Elems → Elems → Attempt) (o : Attempt) (x : Matcher) (ps cs q : Elems) → some q ≡ false
-    → matchFields f o x ps cs q ≡ given (areAsked (x .code) (x .facts) (x .tree) (x .text) ps cs)
-unfolding matchFields
-fields-end f o x ps cs none h = refl
-fields-end f o x ps cs (token i k s e r) h = absurd (false≢true (sym h))
-fields-end f o x ps cs (node i k s e ds r) h = absurd (false≢true (sym h))
-
-opened : (x : Matcher) (p c ps cs first : Elems) (m : ℕ) → ps ≡ children p → cs ≡ children c → first ≡ children p
-    → matchRecordFieldList (suc m) x p c ≡ matchFields (λ q e. matchOpt m x q e) (matchSequences m x ps cs) x ps cs first
-unfolding matchNode
-opened x p c ps cs first m e f g = rw (e, f, g)
-
-pub fields-start : (x : Matcher) (pe : ℕ) (p : List ℕ) (ce : ℕ) (c : List ℕ) (s : State) (out : List ℕ) (ps cs : List ℕ) (r : Answer) (end : List ℕ)
-    → ((i : ℕ) → elems (i + 1) ps ≡ children (elems i p)) → ((i : ℕ) → elems (i + 1) cs ≡ children (elems i c)) → 3 + length ps ≤ length p → 3 + length cs ≤ length c
-    → FieldsGive x (pe + 1) ps (ce + 1) cs 0 s out r end → RecordGives x pe p ce c s out r end
-fields-start x pe p ce c s out ps cs r end below-p below-c short-p short-c g =
-    by-suc _ (λ m h. same-gives (opened x (elems pe p) (elems ce c) _ _ _ m (below-p pe) (below-c ce) (ap (λ (n : ℕ). elems n ps) add-nothing ∙ below-p pe)) (g m (omega (arith, h, short-p, short-c))))
-  where
-    add-nothing : pe + 1 + 0 ≡ pe + 1
-    add-nothing = omega arith
-
-module _ (x : Matcher) (pe : ℕ) (ps : List ℕ) (ce : ℕ) (cs : List ℕ) (at : ℕ) (s : State) (out : List ℕ) (q : List ℕ) (behind : q ≡ drop (at * 3) ps) where
-  here : elems (pe + at) q ≡ elems (pe + at) (drop (at * 3) ps)
-  here = ap (λ (l : List ℕ). elems (pe + at) l) behind
-
-  pub fields-done : (r : Answer) → length q < 3 → areAsked (x .code) (x .facts) (x .tree) (x .text) (elems pe ps) (elems ce cs) ≡ true → r ≡ record { ok = true; state = s }
-      → FieldsGive x pe ps ce cs at s out r out
-  fields-done r h a f m k = gives-same (fields-end _ _ x _ _ _ (ap some (sym here) ∙ some-short (pe + at) q h) ∙ ap given a) f
-
-  pub fields-left : (r : Answer) → length q < 3 → areAsked (x .code) (x .facts) (x .tree) (x .text) (elems pe ps) (elems ce cs) ≡ false → r ≡ noMatch
-      → FieldsGive x pe ps ce cs at s out r out
-  fields-left r h a f m k = gives-no (fields-end _ _ x _ _ _ (ap some (sym here) ∙ some-short (pe + at) q h) ∙ ap given a) f refl
-
-  module _ (long : 3 ≤ length q) where
-    some-here : some (elems (pe + at) (drop (at * 3) ps)) ≡ true
-    some-here = ap some (sym here) ∙ some-long (pe + at) q long
-
-    pub fields-order : (r : Answer) (end : List ℕ) → hasPlaceholderName x (elems (pe + at) q) ≡ true → SequencesGive x pe ps ce cs s out r end → FieldsGive x pe ps ce cs at s out r end
-    fields-order r end h g m k = same-gives (fields-step _ _ x _ _ _ some-here ∙ rw (sym (ap (hasPlaceholderName x) here) ∙ h)) (g m k)
-
-    module _ (plain : hasPlaceholderName x (elems (pe + at) q) ≡ false) where
-      name-plain : hasPlaceholderName x (elems (pe + at) (drop (at * 3) ps)) ≡ false
-      name-plain = sym (ap (hasPlaceholderName x) here) ∙ plain
-
-      -- one without a name is skipped
-      pub fields-skip : (w : ℕ) → some (patternName (elems (pe + at) (drop (at * 3) ps))) ≡ false → ((i : ℕ) → elems (i + w) (drop (w * 3) q) ≡ rest (elems i q))
-          → (r : Answer) (end : List ℕ) → FieldsGive x pe ps ce cs (at + w) s out r end → FieldsGive x pe ps ce cs at s out r end
-      fields-skip w e passes r end g m k = same-gives (fields-step _ _ x _ _ _ some-here ∙ rw (name-plain, e)) (rw (next) at (g m k))
-        where
-          next : elems (pe + (at + w)) (drop ((at + w) * 3) ps) ≡ rest (elems (pe + at) (drop (at * 3) ps))
-          next = pass-more pe at w ps ∙ ap (λ (l : List ℕ). elems (pe + at + w) (drop (w * 3) l)) (sym behind) ∙ passes (pe + at) ∙ ap rest here
-
-      module _ (named : some (patternName (elems (pe + at) (drop (at * 3) ps))) ≡ true) where
-        -- its name was removed before
-        pub fields-taken : (r : Answer) → isFree (x .code) (elems pe ps) (elems (pe + at) (drop (at * 3) ps)) ≡ false → r ≡ noMatch → FieldsGive x pe ps ce cs at s out r out
-        fields-taken r e f m k = gives-no (fields-step _ _ x _ _ _ some-here ∙ rw (name-plain, named, e) (given-false _)) f refl
-
-        module _ (free : isFree (x .code) (elems pe ps) (elems (pe + at) (drop (at * 3) ps)) ≡ true) (i : ℕ) (z : List ℕ) (shorter : length z ≤ length cs)
-            (found : elems (ce + i) z ≡ fieldFor (x .code) (x .text) (x .tree) (x .facts) (elems (pe + at) (drop (at * 3) ps)) (elems ce cs)) where
-          step : (m : ℕ) → matchFields (λ q e. matchOpt m x q e) (matchSequences m x (elems pe ps) (elems ce cs)) x (elems pe ps) (elems ce cs) (elems (pe + at) (drop (at * 3) ps))
-              ≡ andThen (matchOpt m x (elems (pe + at) q) (elems (ce + i) z)) (matchFields (λ q e. matchOpt m x q e) (matchSequences m x (elems pe ps) (elems ce cs)) x (elems pe ps) (elems ce cs) (rest (elems (pe + at) (drop (at * 3) ps))))
-          step m = fields-step _ _ x _ _ _ some-here ∙ rw (name-plain, named, free, here, found) (given-true _)
-
-          pub fields-fail : (r r′ : Answer) (out′ : List ℕ) → OptGives x (pe + at) q (ce + i) z s out r out′ → r .ok ≡ false → r′ ≡ noMatch → FieldsGive x pe ps ce cs at s out r′ out′
-          fields-fail r r′ out′ g e f m k = same-gives (step m) (first-fails _ s out r out′ r′ _ (g m (omega (arith, k, shorter, ap length behind, length-drop (at * 3) ps))) e f)
-
-          pub fields-match : (r : Answer) (t : State) (out′ : List ℕ) (w : ℕ) → OptGives x (pe + at) q (ce + i) z s out r out′ → r .ok ≡ true → t ≡ r .state
-              → ((e : ℕ) → elems (e + w) (drop (w * 3) q) ≡ rest (elems e q))
-              → (a : Answer) (end : List ℕ) → FieldsGive x pe ps ce cs (at + w) t out′ a end → FieldsGive x pe ps ce cs at s out a end
-          fields-match r t out′ w g e f passes a end l m k = same-gives (step m) (both-match _ s out r out′ a _ t end (g m (omega (arith, k, shorter, ap length behind, length-drop (at * 3) ps))) e f (rw (next) at (l m k)))
-            where
-              next : elems (pe + (at + w)) (drop ((at + w) * 3) ps) ≡ rest (elems (pe + at) (drop (at * 3) ps))
-              next = pass-more pe at w ps ∙ ap (λ (l : List ℕ). elems (pe + at + w) (drop (w * 3) l)) (sym behind) ∙ passes (pe + at) ∙ ap rest here

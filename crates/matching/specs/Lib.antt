@@ -1,2 +1,3 @@
 pub mod RecordFields
+pub mod StartingOver
 pub mod Matching

@@ -2,24 +2,29 @@
 -- never changes the answer. An element is the first of a sequence of siblings; an absent one is the empty sequence. The number bounds the
 -- calls: more than five times the words of both sides is enough, and more changes nothing.
 -- Assumes nothing.
-use Prim.Native.Nat.{ℕ, zero, suc, _+_, _*_, _<_}
-use mathlib.Core.Bool.{cond, not, _&&_, _||_}
+use Prim.Native.Nat.{ℕ, zero, suc, _+_, _*_, _≤_, _<_}
+use mathlib.Core.Path.{_≡_}
+use mathlib.Core.Bool.{Bool, true, false, cond, not, _&&_, _||_}
 use mathlib.Core.List.{List, [], _∷_}
 use lib.Dec.{eqb, ltb}
-use lib.ListN.{length, drop}
-use Rattle.syntax.specs.Trees.{Elems, elems}
+use lib.ListN.{length, take, drop}
+use Rattle.syntax.specs.Trees.{Elems, none, elems}
 use Rattle.syntax.specs.Accessors.{children, rest, numberOf, some, nodeIn, firstChild, findExpression}
 use Rattle.siblings.specs.Siblings.{kindOf, isNode, isToken, isTrivia, skipTrivia}
-use Rattle.captures.specs.Attempts.{Bound, Attempt, failed, matched, andThen, given}
-use Rattle.captures.specs.Effects.{binding, Gives}
+use Rattle.captures.specs.Attempts.{Event, Bound, Attempt, failed, matched, andThen, given, comments}
+use Rattle.captures.specs.Effects.{binding, recorded, laidBy, Gives}
 use Rattle.captures.specs.Turns.{Giving}
 use Rattle.captures.specs.declared.State.{State}
 use Rattle.captures.specs.declared.Answer.{Answer}
+use Rattle.captures.specs.declared.Turn.{Turn}
 use Rattle.matcher.specs.Matcher.{Matcher, slotOf, isResolved, isCall}
 use Rattle.matcher.specs.Tokens.{matchesToken, afterToken, note}
 use Rattle.token_trees.specs.TokenTrees.{matchTokenTree}
 use Rattle.calls.specs.Calls.{callOf, argumentsOf, argumentOf, receiverOf, firstFits, sameResolution, sameFunction, takesReceiver, receiverFits, prefixed, argumentsLeft}
+use Rattle.record_fields.specs.Fields.{patternName}
+use Rattle.record_fields.specs.declared.Field.{Field}
 use Rattle.matching.specs.RecordFields.{matchFields}
+use Rattle.matching.specs.StartingOver.{next, partner, fieldByName, byName, again}
 
 -- a placeholder takes the node, where its constraints allow it; "LITERAL", kind 66
 abbrev pub capture : Matcher → ℕ → Elems → Attempt
@@ -50,7 +55,8 @@ unfoldable mutual
       cond (some cs)
       (cond (isTrivia cs) (andThen (note (x .text) cs) (matchSequences n x (skipTrivia ps) (rest cs)))
       (cond (isToken cs)
-      (andThen (given (matchesToken (x .sheet) (x .code) (x .text) (skipTrivia ps) cs)) (matchSequences n x (afterToken (x .sheet) (skipTrivia ps) cs) (rest cs)))
+      (andThen (given (matchesToken (x .sheet) (x .code) (x .text) (skipTrivia ps) cs)) (matchSequences n x (afterToken (x .sheet) (skipTrivia ps)
+      cs) (rest cs)))
       (andThen (given (isNode (skipTrivia ps))) (andThen (matchNode n x (skipTrivia ps) cs) (matchSequences n x (rest (skipTrivia ps)) (rest cs))))))
       (given (not (some (skipTrivia ps))))
 
@@ -147,8 +153,62 @@ ReceiverGives x pe p ce c s out r out′ = (n : ℕ) → enough 0 p c < n → Gi
 abbrev pub ArgumentsGive : Matcher → Giving
 ArgumentsGive x pe p ce c s out r out′ = (n : ℕ) → enough 4 p c < n → Gives (matchArguments n x (elems pe p) (elems ce c)) s out r out′
 
--- for the fields of two record lists from one of the pattern's on, behind some elements
-abbrev pub FieldsGive : Matcher → ℕ → List ℕ → ℕ → List ℕ → ℕ → State → List ℕ → Answer → List ℕ → Type 0
-FieldsGive x pe ps ce cs elements s out r out′ =
+-- for one of the pattern's siblings, and for all of them, by name
+abbrev pub FieldGives : Bool → Matcher → ℕ → List ℕ → ℕ → ℕ → List ℕ → ℕ → State → List ℕ → Answer → List ℕ → Type 0
+FieldGives leaves x pe ps at ce cs beside s out r out′ =
     (n : ℕ) → enough 4 ps cs < n
-    → Gives (matchFields (λ q e. matchOpt n x q e) (matchSequences n x (elems pe ps) (elems ce cs)) x (elems pe ps) (elems ce cs) (elems (pe + elements) (drop (elements * 3) ps))) s out r out′
+    → Gives (fieldByName leaves (λ q e. matchOpt n x q e) x (elems pe ps) (elems ce cs) (elems (pe + at) (drop (at * 3) ps)) (elems (ce + beside)
+    (drop (beside * 3) cs))) s out r out′
+
+abbrev pub ByNameGives : Bool → Matcher → ℕ → List ℕ → ℕ → ℕ → List ℕ → ℕ → State → List ℕ → Answer → List ℕ → Type 0
+ByNameGives leaves x pe ps at ce cs beside s out r out′ =
+    (n : ℕ) → enough 4 ps cs < n
+    → Gives (byName leaves (λ q e. matchOpt n x q e) x (elems pe ps) (elems ce cs) (elems (pe + at) (drop (at * 3) ps)) (elems (ce + beside) (drop
+    (beside * 3) cs))) s out r out′
+
+-- what is left of the pattern's siblings and the code's, by order, and then the comments of pairs left out, as long as no name was a placeholder
+abbrev pub owed : Bool → ℕ → Matcher → Elems → Elems → Elems → List Event
+owed before n x cs q d = cond before (again (λ q e. matchOpt n x q e) x cs q d) []
+
+abbrev pub MeasuredGives : Bool → Matcher → ℕ → List ℕ → ℕ → ℕ → List ℕ → ℕ → State → List ℕ → Answer → List ℕ → Type 0
+MeasuredGives before x pe ps at ce cs i s out r out′ =
+    (n m : ℕ) → enough 4 (drop (at * 3) ps) (drop (i * 3) cs) < n → enough 4 ps cs < m
+    → Gives (andThen (matchSequences n x (elems (pe + at) (drop (at * 3) ps)) (elems (ce + i) (drop (i * 3) cs)))
+    (matched (owed before m x (elems ce cs) (elems (pe + at) (drop (at * 3) ps)) (elems (ce + i) (drop (i * 3) cs))))) s out r out′
+
+-- for one of the pattern's siblings and one of the code's, where they are given
+abbrev pub NotedGives : Bool → Matcher → ℕ → List ℕ → ℕ → ℕ → List ℕ → ℕ → State → List ℕ → Answer → List ℕ → Type 0
+NotedGives named x pe ps at ce cs of s out r out′ =
+    (n : ℕ) → enough 3 (drop (at * 3) ps) (drop (of * 3) cs) < n
+    → Gives (cond named (matchOpt n x (elems (pe + at) (drop (at * 3) ps)) (elems (ce + of) (drop (of * 3) cs))) (matched [])) s out r out′
+
+-- what a turn over siblings passed, and that it acted as events say
+pub record Went (x : Matcher) (pe : ℕ) (p : List ℕ) (ce : ℕ) (c : List ℕ) (s : State) (out : List ℕ) (r : Turn) (out′ : List ℕ) : Type 0 where
+  pub code : elems (ce + r .c) (drop (r .c * 3) c) ≡ rest (elems ce c)
+  pub tokens : isToken (elems ce c) ≡ true → next (elems (pe + r .p) (drop (r .p * 3) p)) ≡ next (elems pe p)
+  pub nodes : isToken (elems ce c) ≡ false → (isNode (skipTrivia (elems pe p)) ≡ true) × (elems (pe + r .p) (drop (r .p * 3) p) ≡ rest (skipTrivia
+      (elems pe p)))
+  pub events : List Event
+  pub state : r .state ≡ recorded (length out) events s
+  pub buffer : out′ ≡ laidBy events s out
+
+-- The comments of what is left of the siblings by name stand in the buffer from a place on, before the place behind all, as long as there
+-- is room.
+pub record Stood (a : Attempt) (from : ℕ) (s : State) (out : List ℕ) : Type 0 where
+  pub events : List Event
+  pub matches : a ≡ matched events
+  pub bytes : s .noted ≤ length out → (from + length (comments events) ≤ s .noted) × (take (length (comments events)) (drop from out) ≡ comments
+      events)
+
+abbrev pub Stands : Bool → Matcher → ℕ → List ℕ → ℕ → ℕ → List ℕ → ℕ → State → List ℕ → Type 0
+Stands before x pe ps at ce cs from s out =
+    (n : ℕ) → enough 4 ps cs < n
+    → Stood (cond before (byName false (λ q e. matchOpt n x q e) x (elems pe ps) (elems ce cs) (elems (pe + at) (drop (at * 3) ps)) none) (matched
+    [])) from s out
+
+-- the code's field that the pattern's sibling behind some elements asks for by its name, where both are matched by order and no name was a
+-- placeholder
+pub record AsksFor (on : Bool) (x : Matcher) (pe : ℕ) (ps : List ℕ) (at : ℕ) (ce : ℕ) (cs : List ℕ) (i : ℕ) (r : Field) : Type 0 where
+  pub named : r .named ≡ (on && isNode (elems (pe + at) (drop (at * 3) ps)) && not (isToken (elems (ce + i) (drop (i * 3) cs))) && some (patternName
+      (elems (pe + at) (drop (at * 3) ps))))
+  pub found : r .named ≡ true → elems (ce + r .c) (drop (r .c * 3) cs) ≡ partner x (elems ce cs) (elems (pe + at) (drop (at * 3) ps))

@@ -1,6 +1,7 @@
 // `attempt_match_node` of docs/src/src/matching.rs and the functions that it calls and that call it, on parts: its functions `attempt_match_X`
 // are `X` of this module. Document 01: "matching a node calls its child sequence, which calls nodes again, over ever fewer elements". The
 // siblings of a sequence are a loop, whose turn is a function of its own.
+use crate::beside;
 use captures::Answer;
 use captures::State;
 use captures::Turn;
@@ -13,14 +14,16 @@ use token_trees::comments;
 ghost use mathlib.Core.Path.{_≡_};
 ghost use Prim.Native.Nat.{_+_, _*_, _≤_};
 ghost use lib.ListN.{length};
-ghost use mathlib.Core.Bool.{true};
+ghost use mathlib.Core.Bool.{true, false};
 ghost use Rattle.syntax.specs.Trees.{elems};
 ghost use Rattle.syntax.specs.Accessors.{some, firstChild};
+ghost use Rattle.captures.specs.Effects.{movedTo};
 ghost use Rattle.captures.specs.Turns.{TurnOf, Steps};
 ghost use Rattle.matcher.specs.Matcher.{matcherOf};
 ghost use Rattle.matcher.specs.FileFacts.{FileOf};
 ghost use Rattle.calls.specs.Calls.{takesReceiver};
-ghost use Rattle.matching.specs.Matching.{NodeGives, ByKindGives, SequencesGive, OptGives, PathGives, SegmentsGive, RecordGives, UfcsGives, MethodCallGives, ReceiverGives, ArgumentsGive};
+ghost use Rattle.matching.specs.Matching.{NodeGives, ByKindGives, SequencesGive, OptGives, PathGives, SegmentsGive, RecordGives, UfcsGives, MethodCallGives, ReceiverGives, ArgumentsGive, FieldGives, ByNameGives, MeasuredGives, NotedGives, Went, Stands};
+ghost use Rattle.matching.specs.StartingOver.{isSilent};
 
 // Matches two nodes.
 pub fn node(
@@ -216,6 +219,7 @@ fn turn(
     requires { ⌜ 3 ≤ length (now c) ⌝ }
     ensures { λ r. ⌜ (length (now (out .exit)) ≡ length (now (out .entry))) × Steps (now (p .entry)) (now (c .entry)) r ⌝ }
     ensures { λ r. ⌜ TurnOf (SequencesGive (matcherOf (now (rule .entry)) (now (file .entry)) (now (marks .entry)) (now (words .entry)) (now (facts .entry)) cx)) (SequencesGive (matcherOf (now (rule .entry)) (now (file .entry)) (now (marks .entry)) (now (words .entry)) (now (facts .entry)) cx)) pe (now (p .entry)) ce (now (c .entry)) s (now (out .entry)) r (now (out .exit)) ⌝ }
+    ensures { λ r. ⌜ (r .go ≡ true → Went (matcherOf (now (rule .entry)) (now (file .entry)) (now (marks .entry)) (now (words .entry)) (now (facts .entry)) cx) pe (now (p .entry)) ce (now (c .entry)) s (now (out .entry)) r (now (out .exit))) ⌝ }
 {
     let n = siblings::width(c);
     let k = siblings::skip_trivia(p);
@@ -519,7 +523,8 @@ fn segments(
     captures::fail()
 }
 
-// Matches two record lists by name, or by order from the start where the pattern has a placeholder as a name.
+// Matches two record lists by name, or by order from the start where the pattern has a placeholder as a name. Pairs that both parts match are
+// left out of the first where no comment is laid; else their comments are laid again.
 fn record_field_list(
     p: &[u32],
     c: &[u32],
@@ -543,18 +548,46 @@ fn record_field_list(
 {
     let ps = siblings::children(p);
     let cs = siblings::children(c);
-    let mut at: usize = 0;
-    let mut t = s;
-    loop {
-        let q = siblings::behind(ps, at);
-        if q.len() < 3 {
-            if record_fields::are_asked(ps, cs, rule, file, words, facts, index, ce + 1) {
-                return captures::done(t);
+    let over = beside::starts_over(ps, marks, pe + 1);
+    let silent = !s.lays | (out.len() < s.noted);
+    let r = by_name(
+        ps,
+        cs,
+        rule,
+        file,
+        marks,
+        words,
+        facts,
+        index,
+        pe + 1,
+        ce + 1,
+        cx,
+        over & silent,
+        s,
+        out,
+    );
+    if r.ok {
+        let t = r.state;
+        if over {
+            if silent {
+                return measured(
+                    ps,
+                    cs,
+                    rule,
+                    file,
+                    marks,
+                    words,
+                    facts,
+                    index,
+                    pe + 1,
+                    ce + 1,
+                    cx,
+                    t,
+                    out,
+                );
             }
-            return captures::fail();
-        }
-        if marks::has_placeholder_name(q, marks, pe + 1 + at) {
-            return sequences(
+            let from = s.noted;
+            return laid(
                 ps,
                 cs,
                 rule,
@@ -566,44 +599,373 @@ fn record_field_list(
                 pe + 1,
                 ce + 1,
                 cx,
+                from,
                 t,
                 out,
             );
         }
-        let f = record_fields::field_for(ps, at, cs, rule, file, words, facts, index, ce + 1);
-        let w = siblings::width(q);
-        if f.named {
-            if f.free {
-                let x = siblings::behind(cs, f.c);
-                let r = opt(
-                    q,
-                    x,
+        if record_fields::are_asked(ps, cs, rule, file, words, facts, index, ce + 1) {
+            return r;
+        }
+        return captures::fail();
+    }
+    captures::fail()
+}
+
+// Matches the pattern's siblings by name, up to the first whose name is a placeholder.
+fn by_name(
+    p: &[u32],
+    c: &[u32],
+    rule: &[u8],
+    file: &[u8],
+    marks: &[u32],
+    words: &[u32],
+    facts: &[u32],
+    index: &[u64],
+    pe: usize,
+    ce: usize,
+    cx: Context,
+    leaves: bool,
+    s: State,
+    out: &mut [u8],
+) -> Answer
+    requires { ⌜ FileOf (now words) (now facts) (now index) ⌝ }
+    requires { ⌜ (pe * 3 + length (now p) ≤ 49152) × (ce * 3 + length (now c) ≤ 49152) ⌝ }
+    ensures { λ _. ⌜ length (now (out .exit)) ≡ length (now (out .entry)) ⌝ }
+    ensures { λ r. ⌜ ByNameGives leaves (matcherOf (now (rule .entry)) (now (file .entry)) (now (marks .entry)) (now (words .entry)) (now (facts .entry)) cx) pe (now (p .entry)) 0 ce (now (c .entry)) 0 s (now (out .entry)) r (now (out .exit)) ⌝ }
+{
+    let mut at: usize = 0;
+    let mut by: usize = 0;
+    let mut t = s;
+    loop {
+        let q = siblings::behind(p, at);
+        if !beside::goes_on(3 <= q.len(), q, marks, pe + at) {
+            return captures::done(t);
+        }
+        let r = field(
+            p,
+            c,
+            rule,
+            file,
+            marks,
+            words,
+            facts,
+            index,
+            pe,
+            ce,
+            cx,
+            leaves,
+            at,
+            by,
+            t,
+            out,
+        );
+        if r.ok {
+            let v = r.state;
+            t = v;
+            by = beside::past(q, c, by);
+            at += siblings::width(q);
+        } else {
+            return captures::fail();
+        }
+    }
+}
+
+// Matches one of the pattern's siblings by its name, where it has one.
+fn field(
+    p: &[u32],
+    c: &[u32],
+    rule: &[u8],
+    file: &[u8],
+    marks: &[u32],
+    words: &[u32],
+    facts: &[u32],
+    index: &[u64],
+    pe: usize,
+    ce: usize,
+    cx: Context,
+    leaves: bool,
+    at: usize,
+    by: usize,
+    s: State,
+    out: &mut [u8],
+) -> Answer
+    requires { ⌜ FileOf (now words) (now facts) (now index) ⌝ }
+    requires { ⌜ (pe * 3 + length (now p) ≤ 49152) × (ce * 3 + length (now c) ≤ 49152) ⌝ }
+    requires { ⌜ (at * 3 ≤ length (now p)) × (by * 3 ≤ length (now c)) ⌝ }
+    ensures { λ _. ⌜ length (now (out .exit)) ≡ length (now (out .entry)) ⌝ }
+    ensures { λ r. ⌜ FieldGives leaves (matcherOf (now (rule .entry)) (now (file .entry)) (now (marks .entry)) (now (words .entry)) (now (facts .entry)) cx) pe (now (p .entry)) at ce (now (c .entry)) by s (now (out .entry)) r (now (out .exit)) ⌝ }
+{
+    let f = record_fields::field_for(p, at, c, rule, file, words, facts, index, ce);
+    if f.named {
+        if f.free {
+            if leaves & beside::is_same(c, f.c, by) {
+                return captures::done(s);
+            }
+            let q = siblings::behind(p, at);
+            let x = siblings::behind(c, f.c);
+            return opt(
+                q,
+                x,
+                rule,
+                file,
+                marks,
+                words,
+                facts,
+                index,
+                pe + at,
+                ce + f.c,
+                cx,
+                s,
+                out,
+            );
+        }
+        return captures::fail();
+    }
+    captures::done(s)
+}
+
+// Matches the siblings by order, where no comment is laid: those of the pairs left out before count once more.
+fn measured(
+    p: &[u32],
+    c: &[u32],
+    rule: &[u8],
+    file: &[u8],
+    marks: &[u32],
+    words: &[u32],
+    facts: &[u32],
+    index: &[u64],
+    pe: usize,
+    ce: usize,
+    cx: Context,
+    s: State,
+    out: &mut [u8],
+) -> Answer
+    requires { ⌜ FileOf (now words) (now facts) (now index) ⌝ }
+    requires { ⌜ (pe * 3 + length (now p) ≤ 49152) × (ce * 3 + length (now c) ≤ 49152) ⌝ }
+    requires { ⌜ isSilent s (now out) ≡ true ⌝ }
+    ensures { λ _. ⌜ length (now (out .exit)) ≡ length (now (out .entry)) ⌝ }
+    ensures { λ r. ⌜ MeasuredGives true (matcherOf (now (rule .entry)) (now (file .entry)) (now (marks .entry)) (now (words .entry)) (now (facts .entry)) cx) pe (now (p .entry)) 0 ce (now (c .entry)) 0 s (now (out .entry)) r (now (out .exit)) ⌝ }
+{
+    let mut at: usize = 0;
+    let mut i: usize = 0;
+    let mut before = true;
+    let mut t = s;
+    loop {
+        let ps = siblings::behind(p, at);
+        let cs = siblings::behind(c, i);
+        let k = at + siblings::skip_trivia(ps);
+        let q = siblings::behind(p, k);
+        if cs.len() < 3 {
+            if q.len() < 3 {
+                return captures::done(t);
+            }
+            return captures::fail();
+        }
+        let on = beside::goes_on(before, q, marks, pe + k);
+        let f = beside::asked(on, p, k, c, i, rule, file, words, facts, index, ce);
+        before = on;
+        if f.named & (f.c == i) {
+            let r = node(
+                q,
+                cs,
+                rule,
+                file,
+                marks,
+                words,
+                facts,
+                index,
+                pe + k,
+                ce + i,
+                cx,
+                t,
+                out,
+            );
+            if r.ok {
+                let v = r.state;
+                t = captures::count_again(t, v, out.len() + 1);
+                at = k + siblings::width(q);
+                i += siblings::width(cs);
+            } else {
+                return captures::fail();
+            }
+        } else {
+            let u = turn(
+                ps,
+                cs,
+                rule,
+                file,
+                marks,
+                words,
+                facts,
+                index,
+                pe + at,
+                ce + i,
+                cx,
+                t,
+                out,
+            );
+            if u.go {
+                let v = u.state;
+                t = v;
+                at += u.p;
+                i += u.c;
+            } else {
+                return captures::fail();
+            }
+        }
+    }
+}
+
+// Matches the siblings by order, where comments are laid: those of the siblings by name stand in the buffer from a place on.
+fn laid(
+    p: &[u32],
+    c: &[u32],
+    rule: &[u8],
+    file: &[u8],
+    marks: &[u32],
+    words: &[u32],
+    facts: &[u32],
+    index: &[u64],
+    pe: usize,
+    ce: usize,
+    cx: Context,
+    start: usize,
+    s: State,
+    out: &mut [u8],
+) -> Answer
+    requires { ⌜ FileOf (now words) (now facts) (now index) ⌝ }
+    requires { ⌜ (pe * 3 + length (now p) ≤ 49152) × (ce * 3 + length (now c) ≤ 49152) ⌝ }
+    requires { ⌜ (s .lays ≡ true) × Stands true (matcherOf (now rule) (now file) (now marks) (now words) (now facts) cx) pe (now p) 0 ce (now c) start s (now out) ⌝ }
+    ensures { λ _. ⌜ length (now (out .exit)) ≡ length (now (out .entry)) ⌝ }
+    ensures { λ r. ⌜ SequencesGive (matcherOf (now (rule .entry)) (now (file .entry)) (now (marks .entry)) (now (words .entry)) (now (facts .entry)) cx) pe (now (p .entry)) ce (now (c .entry)) s (now (out .entry)) r (now (out .exit)) ⌝ }
+{
+    let mut at: usize = 0;
+    let mut i: usize = 0;
+    let mut before = true;
+    let mut from = start;
+    let mut t = s;
+    loop {
+        let ps = siblings::behind(p, at);
+        let cs = siblings::behind(c, i);
+        let k = at + siblings::skip_trivia(ps);
+        let q = siblings::behind(p, k);
+        if cs.len() < 3 {
+            if q.len() < 3 {
+                return captures::done(t);
+            }
+            return captures::fail();
+        }
+        let on = beside::goes_on(before, q, marks, pe + k);
+        let room = t.noted <= out.len();
+        let f = beside::asked(on & room, p, k, c, i, rule, file, words, facts, index, ce);
+        before = on;
+        let m = noted(
+            p,
+            c,
+            rule,
+            file,
+            marks,
+            words,
+            facts,
+            index,
+            pe,
+            ce,
+            cx,
+            f.named,
+            k,
+            f.c,
+            from,
+            t,
+            out,
+        );
+        if m.ok {
+            let v = m.state;
+            let end = v.noted;
+            if f.named & (f.c == i) & captures::fits(from, end, t.noted, out.len()) {
+                captures::lay_again(out, from, end - from, t.noted);
+                t = captures::moved(v, t.noted + (end - from), true);
+                at = k + siblings::width(q);
+                i += siblings::width(cs);
+            } else {
+                let u = turn(
+                    ps,
+                    cs,
                     rule,
                     file,
                     marks,
                     words,
                     facts,
                     index,
-                    pe + 1 + at,
-                    ce + 1 + f.c,
+                    pe + at,
+                    ce + i,
                     cx,
                     t,
                     out,
                 );
-                if r.ok {
-                    let v = r.state;
+                if u.go {
+                    let v = u.state;
                     t = v;
-                    at += w;
+                    at += u.p;
+                    i += u.c;
                 } else {
                     return captures::fail();
                 }
-            } else {
-                return captures::fail();
             }
+            from = end;
         } else {
-            at += w;
+            return captures::fail();
         }
     }
+}
+
+// Measures the comments of one of the pattern's siblings matched by its name, where it has one, from a place on.
+fn noted(
+    p: &[u32],
+    c: &[u32],
+    rule: &[u8],
+    file: &[u8],
+    marks: &[u32],
+    words: &[u32],
+    facts: &[u32],
+    index: &[u64],
+    pe: usize,
+    ce: usize,
+    cx: Context,
+    named: bool,
+    at: usize,
+    of: usize,
+    from: usize,
+    s: State,
+    out: &mut [u8],
+) -> Answer
+    requires { ⌜ FileOf (now words) (now facts) (now index) ⌝ }
+    requires { ⌜ (pe * 3 + length (now p) ≤ 49152) × (ce * 3 + length (now c) ≤ 49152) ⌝ }
+    requires { ⌜ (at * 3 ≤ length (now p)) × (of * 3 ≤ length (now c)) ⌝ }
+    ensures { λ _. ⌜ length (now (out .exit)) ≡ length (now (out .entry)) ⌝ }
+    ensures { λ r. ⌜ NotedGives named (matcherOf (now (rule .entry)) (now (file .entry)) (now (marks .entry)) (now (words .entry)) (now (facts .entry)) cx) pe (now (p .entry)) at ce (now (c .entry)) of (movedTo from false s) (now (out .entry)) r (now (out .exit)) ⌝ }
+{
+    let t = captures::moved(s, from, false);
+    if named {
+        let q = siblings::behind(p, at);
+        let x = siblings::behind(c, of);
+        return opt(
+            q,
+            x,
+            rule,
+            file,
+            marks,
+            words,
+            facts,
+            index,
+            pe + at,
+            ce + of,
+            cx,
+            t,
+            out,
+        );
+    }
+    captures::done(t)
 }
 
 // Matches a call with a call whose first argument has the qualifier type.

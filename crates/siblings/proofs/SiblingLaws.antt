@@ -12,11 +12,11 @@ use Rattle.words.specs.Fields.{isToken as tokenWords, syntaxKind}
 use Rattle.words.proofs.TestLaws.{and-both, and-of}
 use Rattle.syntax.specs.Parts.{span, childWords, restWords}
 use Rattle.syntax.specs.Trees.{Elems, none, token, node, elems}
-use Rattle.syntax.specs.Accessors.{rest, some, numberOf}
+use Rattle.syntax.specs.Accessors.{rest, some, numberOf, tokenIn}
 use Rattle.syntax.proofs.PartLaws.{span-pos, span-token}
 use Rattle.syntax.proofs.TreeLaws.{elems-end, elems-token, elems-node}
 use Rattle.syntax.proofs.AccessorLaws.{rest-are, some-is, number-is}
-use Rattle.siblings.specs.Siblings.{kindOf, isNode, isToken, isTrivia, isComment, skipTrivia}
+use Rattle.siblings.specs.Siblings.{kindOf, isNode, isToken, isTrivia, isComment, skipTokens}
 
 -- ---- nodes, tokens and trivia
 
@@ -49,41 +49,42 @@ some-node none h = absurd (false≢true h)
 some-node (token i k s e r) h = refl
 some-node (node i k s e cs r) h = refl
 
-pub some-token : (c : Elems) → isToken c ≡ true → some c ≡ true
-some-token none h = absurd (false≢true h)
-some-token (token i k s e r) h = refl
-some-token (node i k s e cs r) h = refl
+pub some-token : (low high : ℕ) (c : Elems) → tokenIn low high c ≡ true → some c ≡ true
+some-token low high none h = absurd (false≢true h)
+some-token low high (token i k s e r) h = refl
+some-token low high (node i k s e cs r) h = refl
 
 -- a part that has an element has its three words
 pub long-some : (i : ℕ) (l : List ℕ) → some (elems i l) ≡ true → 3 ≤ length l
 long-some i l h = leb-true 3 (length l) (sym (some-is i l) ∙ h)
 
--- ---- passing trivia
+-- ---- passing tokens of some kinds
 
-pub skip-here : (c : Elems) → isTrivia c ≡ false → skipTrivia c ≡ c
-unfolding skipTrivia
-skip-here none h = refl
-skip-here (token i k s e r) h = rw h
-skip-here (node i k s e cs r) h = refl
+module _ (low high : ℕ) where
+  pub skip-here : (c : Elems) → tokenIn low high c ≡ false → skipTokens low high c ≡ c
+  unfolding skipTokens
+  skip-here none h = refl
+  skip-here (token i k s e r) h = rw h
+  skip-here (node i k s e cs r) h = refl
 
-pub skip-next : (c : Elems) → isTrivia c ≡ true → skipTrivia c ≡ skipTrivia (rest c)
-unfolding skipTrivia
-skip-next none h = refl
-skip-next (token i k s e r) h = rw h
-skip-next (node i k s e cs r) h = absurd (false≢true h)
+  pub skip-next : (c : Elems) → tokenIn low high c ≡ true → skipTokens low high c ≡ skipTokens low high (rest c)
+  unfolding skipTokens
+  skip-next none h = refl
+  skip-next (token i k s e r) h = rw h
+  skip-next (node i k s e cs r) h = absurd (false≢true h)
 
--- a trivia token has three words, and what follows it begins behind them
-token-spans : (i : ℕ) (l : List ℕ) → 3 ≤ length l → isTrivia (elems i l) ≡ true → (b : Bool) → tokenWords l ≡ b → span l ≡ 1
-token-spans i l h t true e = span-token l e
-token-spans i l h t false e = absurd (false≢true (rw (elems-node i l h e) at t))
+  -- a token has three words, and what follows it begins behind them
+  token-spans : (i : ℕ) (l : List ℕ) → 3 ≤ length l → tokenIn low high (elems i l) ≡ true → (b : Bool) → tokenWords l ≡ b → span l ≡ 1
+  token-spans i l h t true e = span-token l e
+  token-spans i l h t false e = absurd (false≢true (rw (elems-node i l h e) at t))
 
-pub trivia-long : (i : ℕ) (l : List ℕ) → isTrivia (elems i l) ≡ true → 3 ≤ length l
-trivia-long i l t = long-some i l (some-token (elems i l) (trivia-is-token (elems i l) t))
+  pub token-long : (i : ℕ) (l : List ℕ) → tokenIn low high (elems i l) ≡ true → 3 ≤ length l
+  token-long i l t = long-some i l (some-token low high (elems i l) t)
 
-pub trivia-rest : (i : ℕ) (l : List ℕ) → isTrivia (elems i l) ≡ true → rest (elems i l) ≡ elems (i + 1) (drop 3 l)
-trivia-rest i l t =
-    let h = trivia-long i l t in
-    rest-are i l h ∙ ap (λ (n : ℕ). elems (i + n) (drop (n * 3) l)) (token-spans i l h t (tokenWords l) refl)
+  pub token-rest : (i : ℕ) (l : List ℕ) → tokenIn low high (elems i l) ≡ true → rest (elems i l) ≡ elems (i + 1) (drop 3 l)
+  token-rest i l t =
+      let h = token-long i l t in
+      rest-are i l h ∙ ap (λ (n : ℕ). elems (i + n) (drop (n * 3) l)) (token-spans i l h t (tokenWords l) refl)
 
 -- ---- passing no more than there is
 

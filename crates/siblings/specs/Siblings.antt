@@ -25,8 +25,12 @@ isTrivia c = tokenIn 2 3 c
 abbrev pub isComment : Elems → Bool
 isComment c = tokenIn 3 3 c
 
+-- what is left behind the tokens of some kinds that siblings begin with
+unfoldable pub skipTokens : ℕ → ℕ → Elems → Elems
+skipTokens low high none = none
+skipTokens low high (token i k s e r) = cond (between low high k) (skipTokens low high r) (token i k s e r)
+skipTokens low high (node i k s e cs r) = node i k s e cs r
+
 -- `PatternIterator::next` finds the next element that is no trivia
-unfoldable pub skipTrivia : Elems → Elems
-skipTrivia none = none
-skipTrivia (token i k s e r) = cond (between 2 3 k) (skipTrivia r) (token i k s e r)
-skipTrivia (node i k s e cs r) = node i k s e cs r
+abbrev pub skipTrivia : Elems → Elems
+skipTrivia c = skipTokens 2 3 c

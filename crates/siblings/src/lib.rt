@@ -8,7 +8,7 @@ ghost use Prim.Native.Nat.{ℕ, _+_, _*_, _≤_};
 ghost use lib.ListN.{length, drop};
 ghost use Rattle.syntax.specs.Trees.{elems};
 ghost use Rattle.syntax.specs.Accessors.{children, rest, findNode};
-ghost use Rattle.siblings.specs.Siblings.{kindOf, skipTrivia};
+ghost use Rattle.siblings.specs.Siblings.{kindOf, skipTokens, skipTrivia};
 
 // The part behind some elements.
 pub fn behind(c: &[u32], n: usize) -> &[u32]
@@ -68,19 +68,27 @@ pub fn find(c: &[u32], low: u32, high: u32) -> usize
     at_most(c, accessors::find_node(c, low, high))
 }
 
-// How many trivia tokens a part begins with.
-pub fn skip_trivia(part: &[u32]) -> usize
+// How many tokens, whose kinds are from one number to another, a part begins with.
+pub fn skip_tokens(part: &[u32], low: u32, high: u32) -> usize
     ensures { λ r. ⌜ r * 3 ≤ length (now (part .entry)) ⌝ }
-    ensures { λ r. ⌜ ((i : ℕ) → elems (i + r) (drop (r * 3) (now (part .entry))) ≡ skipTrivia (elems i (now (part .entry)))) ⌝ }
+    ensures { λ r. ⌜ ((i : ℕ) → elems (i + r) (drop (r * 3) (now (part .entry))) ≡ skipTokens low high (elems i (now (part .entry)))) ⌝ }
 {
     let mut at: usize = 0;
     let mut c = part;
-    while accessors::is_token_in(c, 2, 3) {
+    while accessors::is_token_in(c, low, high) {
         at += 1;
         let d = fields::tail(c, 3);
         c = d;
     }
     at
+}
+
+// How many trivia tokens a part begins with.
+pub fn skip_trivia(part: &[u32]) -> usize
+    ensures { λ r. ⌜ r * 3 ≤ length (now (part .entry)) ⌝ }
+    ensures { λ r. ⌜ ((i : ℕ) → elems (i + r) (drop (r * 3) (now (part .entry))) ≡ skipTrivia (elems i (now (part .entry)))) ⌝ }
+{
+    skip_tokens(part, 2, 3)
 }
 
 // The syntax kind of the first element; 0 where there is none.

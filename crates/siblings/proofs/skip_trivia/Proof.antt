@@ -1,67 +1,11 @@
--- `siblings::skip_trivia` meets its contract: behind the trivia tokens passed so far the same is left as behind all.
+-- `siblings::skip_trivia` meets its contract.
 -- Assumes nothing.
-use mathlib.Core.Path.{_≡_, refl, sym, ap, _∙_}
-use mathlib.Core.Bool.{true}
-use denote.Ref.{now}
-use Prim.Native.Nat.{ℕ, _+_, _*_, _≤_}
-use lib.ListN.{length, drop, length-drop}
-use lib.Seq.{drop-drop}
-use native.Mathlib.Omega.{arith}
-use native.Mathlib.Nat.{add-zero, add-assoc}
-use Rattle.syntax.specs.Trees.{elems}
-use Rattle.siblings.specs.Siblings.{isTrivia, skipTrivia}
-use Rattle.siblings.proofs.SiblingLaws.{skip-here, skip-next, trivia-long, trivia-rest}
+use borrow.Author.Needs.{needs}
 use Rattle.siblings.proofs.skip_trivia.Statement.{statement}
 use Rattle.siblings.proofs.skip_trivia.Tie as tie
 
-abbrev Inv-loop : tie.InvT-loop
-Inv-loop part at₀ c₀ at c = (c ≡ drop (at * 3) part) × (at * 3 ≤ length part) × ((i : ℕ) → skipTrivia (elems i part) ≡ skipTrivia (elems (i + at) c))
-
-abbrev μ-loop : tie.MeasureT-loop
-μ-loop part at₀ c₀ at c = length c
-
-loop-holds : tie.Need-loop-holds Inv-loop μ-loop
-loop-holds c = (refl, omega arith, λ i. rw (add-zero i))
-
-add-at : tie.Need-add-at Inv-loop μ-loop
-add-at c =
-    let c₂ = c .before .before in
-    omega (arith, c₂ .loop .inv .1)
-
-loop-less : tie.Need-loop-less Inv-loop μ-loop
-loop-less c =
-    let c₁ = c .before in let c₂ = c₁ .before in
-    let d = now (c₂ .before .loop .c) in
-    omega (arith, ap length (c .tail .ensures), length-drop 3 d, trivia-long 0 d (sym (c₂ .is-token-in .ensures 0) ∙ c₁ .if1 .taken))
-
-loop-again : tie.Need-loop-again Inv-loop μ-loop
-loop-again c =
-    let c₁ = c .before in let c₂ = c₁ .before in let c₃ = c₂ .before in
-    let w = now (c₃ .before .before .args .part) in let l = c₃ .loop in let n = l .at in let d = now (l .c) in
-    let e : n * 3 + 3 ≡ (n + 1) * 3 = omega arith in
-    let g : (i : ℕ) → isTrivia (elems i d) ≡ true = λ i. sym (c₂ .is-token-in .ensures i) ∙ c₁ .if1 .taken in
-    let f : (i : ℕ) → skipTrivia (elems (i + n) d) ≡ skipTrivia (elems (i + n + 1) (drop 3 d)) = λ i. skip-next (elems (i + n) d) (g (i + n)) ∙ ap skipTrivia (trivia-rest (i + n) d (g (i + n))) in (
-      c .tail .ensures ∙ ap (drop 3) (l .inv .0) ∙ drop-drop 3 (n * 3) w ∙ ap (λ (k : ℕ). drop k w) e,
-      omega (arith, ap length (l .inv .0), length-drop (n * 3) w, l .inv .1, trivia-long 0 d (g 0)),
-      λ i. l .inv .2 i ∙ f i ∙ rw (c .tail .ensures, add-assoc i n 1),
-    )
-
-returns : tie.Need-returns Inv-loop μ-loop
-returns c =
-    let c₁ = c .before in let l = c₁ .before .loop in let n = l .at in
-    let f : (i : ℕ) → skipTrivia (elems (i + n) (now (l .c))) ≡ elems (i + n) (now (l .c)) = λ i. skip-here (elems (i + n) (now (l .c))) (sym (c₁ .is-token-in .ensures (i + n)) ∙ c .if1 .left) in
-    (l .inv .1, λ i. sym (l .inv .2 i ∙ f i ∙ ap (elems (i + n)) (l .inv .0)))
+returns : tie.Need-returns
+returns c = c .skip-tokens .ensures
 
 pub skip-trivia-spec : {M : Type 1} → statement M
-skip-trivia-spec =
-    tie.close
-    (tie.spec
-    Inv-loop
-    μ-loop
-    loop-holds
-    (λ c κs. tt)
-    add-at
-    (λ c κs. tt)
-    loop-less
-    loop-again
-    returns)
+skip-trivia-spec = tie.close (tie.spec (λ c κs. search needs) returns)

@@ -6,7 +6,8 @@ use Prim.Native.Nat.{_+_}
 use native.Mathlib.Omega.{arith}
 use denote.Ref.{now}
 use Rattle.syntax.specs.Trees.{elems}
-use Rattle.matcher.proofs.TokenLaws.{same-token-is, token-long, pass-more, pass-none, matches-extra, matches-past, after-extra, after-past}
+use Rattle.siblings.proofs.SiblingLaws.{token-long}
+use Rattle.matcher.proofs.TokenLaws.{same-token-is, pass-more, pass-none, matches-extra, matches-past, after-extra, after-past}
 use borrow.Author.Needs.{needs}
 use Rattle.matcher.proofs.token_matching.attempt_match_token.Statement.{statement}
 use Rattle.matcher.proofs.token_matching.attempt_match_token.Tie as tie
@@ -26,7 +27,7 @@ width-requires : tie.Need-width-requires
 width-requires c κs =
     let c₁ = c .before in let c₂ = c₁ .before in let c₁₀ = c₂ .before .before .before .before .before .before .before .before in
     let r = now (c₂ .behind .result) in
-    token-long 0 r (same-token-is (now (c₁₀ .args .rule)) (now (c₁₀ .args .file)) (elems 0 r) (elems 0 (now (c₁₀ .args .c)))
+    token-long 1 1023 0 r (same-token-is (now (c₁₀ .args .rule)) (now (c₁₀ .args .file)) (elems 0 r) (elems 0 (now (c₁₀ .args .c)))
     (rw (← c₁ .is-same-token .ensures 0 0) (c .if2 .taken)))
 
 returns-2 : tie.Need-returns-2

@@ -6,7 +6,8 @@ use native.Mathlib.Omega.{arith}
 use denote.Ref.{now}
 use Rattle.words.proofs.TestLaws.{and-both}
 use Rattle.syntax.specs.Trees.{elems}
-use Rattle.matcher.proofs.TokenLaws.{token-long, pass-more, pass-none, past-none, past-some}
+use Rattle.siblings.proofs.SiblingLaws.{token-long}
+use Rattle.matcher.proofs.TokenLaws.{pass-more, pass-none, past-none, past-some}
 use borrow.Author.Needs.{needs}
 use Rattle.matcher.proofs.token_matching.past_separator.Statement.{statement}
 use Rattle.matcher.proofs.token_matching.past_separator.Tie as tie
@@ -14,7 +15,7 @@ use Rattle.matcher.proofs.token_matching.past_separator.Tie as tie
 width-requires : tie.Need-width-requires
 width-requires c κs =
     let c₁ = c .before in let c₄ = c₁ .before .before .before in let c₇ = c₄ .before .before .before in
-    token-long 0 (now (c₇ .args .p)) (sym (c₄ .is-token-in .ensures 0) ∙ and-both (c₄ .is-token-in .result) (c₁ .skips .result) (c .if1 .taken) .0)
+    token-long 1 1023 0 (now (c₇ .args .p)) (sym (c₄ .is-token-in .ensures 0) ∙ and-both (c₄ .is-token-in .result) (c₁ .skips .result) (c .if1 .taken) .0)
 
 returns : tie.Need-returns
 returns c =
