@@ -4,7 +4,7 @@ use words::buffer;
 use words::fields;
 use words::texts;
 ghost use mathlib.Core.Path.{_≡_};
-ghost use mathlib.Core.Bool.{true};
+ghost use mathlib.Core.Bool.{true, false};
 ghost use mathlib.Core.List.{List};
 ghost use Prim.Native.Nat.{ℕ, _+_, _-_, _≤_, _<_};
 ghost use lib.ListN.{length, take, drop};
@@ -163,6 +163,7 @@ pub fn count_again(s: State, t: State, past: usize) -> State
 // Whether the bytes between two places fit once more at a third.
 pub fn fits(from: usize, end: usize, at: usize, room: usize) -> bool
     ensures { λ r. ⌜ (r ≡ true → (from ≤ end) × (at + (end - from) ≤ room)) ⌝ }
+    ensures { λ r. ⌜ (r ≡ false → from ≤ end → room < at + (end - from)) ⌝ }
 {
     if end < from {
         return false;

@@ -20,7 +20,7 @@ use Rattle.paths.specs.Names.{containsTypeArguments, containsPlaceholder}
 use Rattle.paths.specs.Steps.{step}
 use Rattle.paths.specs.Resolved.{isUnresolved, resolvedPaths, claims, lastNote}
 use Rattle.resolving.specs.RulePaths.{pairFails}
-use Rattle.siblings.specs.Siblings.{skipTrivia}
+use Rattle.siblings.specs.Siblings.{skipTokens}
 use Rattle.captures.specs.Attempts.{andThen, comments}
 use Rattle.captures.specs.Effects.{recorded}
 use Rattle.prepared.specs.Placeholders.{allHold, constraintsOf}
@@ -39,7 +39,7 @@ pub starred : AllHold examples
 unfolding lowest firstOf inTurn sameText part tokensFrom isTokenList allTokenWords totalLength reading run hasName vars rawCode trimStart trimEnd
     standInIndex size depth words tiles formed isTree hasElement findNode firstToken onlyIdent orElse elementAt factsOf areFactWords areFacts
     factIndex hasRepeated hasGap isFactList before areRows total isDirectory pairsOf pairAt any kept rulesFrom ruleAt pairFails
-    containsTypeArguments containsPlaceholder step isUnresolved resolvedPaths claims lastNote skipTrivia andThen comments recorded allHold
+    containsTypeArguments containsPlaceholder step isUnresolved resolvedPaths claims lastNote skipTokens andThen comments recorded allHold
     constraintsOf matchNode matchByKind matchSequences matchOpt matchPath matchSegments
 starred =
     refl

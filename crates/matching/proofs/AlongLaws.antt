@@ -17,7 +17,8 @@ use Rattle.matcher.specs.Tokens.{isExtra, pastSeparator, isSameToken, matchesTo
 use Rattle.matcher.proofs.TokenLaws.{same-token-is}
 use Rattle.siblings.specs.Siblings.{kindOf}
 use Rattle.record_fields.specs.Fields.{patternName}
-use Rattle.matching.specs.StartingOver.{next, past, partner, isSame, fieldByName, byName, notesBeside, again}
+use Rattle.ordered_fields.specs.Order.{next, past, partner, isSame}
+use Rattle.matching.specs.StartingOver.{fieldByName, byName, notesBeside, again}
 
 -- ---- the next one that is no token
 

@@ -27,8 +27,8 @@ use Rattle.matcher.specs.Matcher.{Matcher, hasPlaceholderName}
 use Rattle.matcher.proofs.TokenLaws.{pass-more}
 use Rattle.record_fields.specs.Fields.{patternName}
 use Rattle.record_fields.specs.declared.Field.{Field}
-use Rattle.matching.specs.StartingOver.{next, partner}
-use Rattle.matching.specs.Matching.{matchNode, matchSequences, matchOpt, NodeGives, SequencesGive, NotedGives, Went, Stands, Stood, AsksFor}
+use Rattle.ordered_fields.specs.Order.{next, partner, AsksFor}
+use Rattle.matching.specs.Matching.{matchNode, matchSequences, matchOpt, NodeGives, SequencesGive, NotedGives, Went, Stands, Stood}
 use Rattle.matching.proofs.StepLaws.{by-suc, same-gives, sequence-node, opt-both}
 use Rattle.matching.proofs.PlaceLaws.{some-long, node-long}
 use Rattle.matching.proofs.GiveLaws.{both-match}

@@ -5,7 +5,6 @@ pub mod GiveLaws
 pub mod LoopLaws
 pub mod CallLaws
 pub mod FuelLaws
-pub mod BesideLaws
 pub mod OverLaws
 pub mod AlongLaws
 pub mod TurnLaws

@@ -20,7 +20,8 @@ use Rattle.captures.proofs.AttemptLaws.{laid-append, laid-length, recorded-appe
 use Rattle.captures.proofs.AgainLaws.{notes-later, laid-silent, silent-stays}
 use Rattle.matcher.specs.Matcher.{Matcher, hasPlaceholderName}
 use Rattle.token_trees.proofs.FuelLaws.{Below}
-use Rattle.matching.specs.StartingOver.{next, partner, isBeside, again, isSilent}
+use Rattle.ordered_fields.specs.Order.{next, partner, isBeside}
+use Rattle.matching.specs.StartingOver.{again, isSilent}
 use Rattle.matching.specs.Matching.{matchOpt, owed}
 use Rattle.matching.proofs.AlongLaws.{next-past, next-here, next-trivia, again-next, again-cursor, again-stops, again-node}
 use Rattle.matching.proofs.TurnLaws.{Acted, acted, failed-of}

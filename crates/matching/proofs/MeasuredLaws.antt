@@ -26,13 +26,14 @@ use Rattle.matcher.specs.Matcher.{Matcher, hasPlaceholderName}
 use Rattle.matcher.proofs.TokenLaws.{pass-more}
 use Rattle.record_fields.specs.Fields.{patternName}
 use Rattle.record_fields.specs.declared.Field.{Field}
-use Rattle.matching.specs.StartingOver.{next, partner, isSame, isBeside, again, isSilent}
-use Rattle.matching.specs.Matching.{matchNode, matchSequences, matchOpt, SequencesGive, NodeGives, MeasuredGives, owed, Went, AsksFor}
+use Rattle.ordered_fields.specs.Order.{next, partner, isSame, isBeside, AsksFor}
+use Rattle.matching.specs.StartingOver.{again, isSilent}
+use Rattle.matching.specs.Matching.{matchNode, matchSequences, matchOpt, SequencesGive, NodeGives, MeasuredGives, owed, Went}
 use Rattle.matching.proofs.StepLaws.{by-suc, same-gives, sequence-end, sequence-node, opt-both}
 use Rattle.matching.proofs.PlaceLaws.{some-long, some-short, node-long}
 use Rattle.matching.proofs.GiveLaws.{gives-no, gives-same, first-fails}
 use Rattle.matching.proofs.FuelLaws.{more-node, more-sequences, one-outcome}
-use Rattle.matching.proofs.BesideLaws.{same-is}
+use Rattle.ordered_fields.proofs.OrderLaws.{same-is}
 use Rattle.matching.proofs.AlongLaws.{next-here}
 use Rattle.matching.proofs.TurnLaws.{Acted, acted, failed-of}
 use Rattle.matching.proofs.MeasureLaws.{none-after, twice, after-turn, owed-turn, owed-pair, to-node}

@@ -26,7 +26,8 @@ use Rattle.matcher.proofs.TokenLaws.{pass-more}
 use Rattle.record_fields.specs.Fields.{patternName, isFree, areAsked, FieldIs}
 use Rattle.record_fields.specs.declared.Field.{Field}
 use Rattle.matching.specs.RecordFields.{matchFields}
-use Rattle.matching.specs.StartingOver.{startsOver, next, past, partner, isSame, isBeside, fieldByName, byName, again, isSilent}
+use Rattle.ordered_fields.specs.Order.{startsOver, next, past, partner, isSame, isBeside}
+use Rattle.matching.specs.StartingOver.{fieldByName, byName, again, isSilent}
 use Rattle.matching.specs.Matching.{matchNode, matchSequences, matchOpt, matchRecordFieldList, SequencesGive, OptGives, RecordGives, FieldGives, ByNameGives, MeasuredGives, NotedGives, Stands}
 use Rattle.matching.proofs.StepLaws.{by-suc, same-gives}
 use Rattle.matching.proofs.GiveLaws.{gives-no, gives-same, first-fails, both-match, test-fails, test-holds}

@@ -30,7 +30,8 @@ use Rattle.matcher.proofs.TokenLaws.{same-token-is, pass-more, pass-none}
 use Rattle.record_fields.specs.Fields.{patternName, areAsked, isFree, isField, lastField}
 use Rattle.matching.specs.RecordFields.{matchFields}
 use Rattle.matching.specs.Matching.{matchNode, matchSequences, matchOpt}
-use Rattle.matching.specs.StartingOver.{startsOver, next, past, partner, isSame, byName, again, isSilent}
+use Rattle.ordered_fields.specs.Order.{startsOver, next, past, partner, isSame}
+use Rattle.matching.specs.StartingOver.{byName, again, isSilent}
 use Rattle.matching.proofs.StepLaws.{same-gives, opt-both, sequence-end, sequence-trivia, sequence-token, sequence-other-token, sequence-node, sequence-other}
 
 -- ---- the fields by name and what comes behind them

@@ -21,7 +21,8 @@ use Rattle.captures.specs.Effects.{placeBehind, recordedOne, recorded, laidOne,
 use Rattle.captures.proofs.AttemptLaws.{laid-one-length, laid-length, comments-append, notedAfter, recorded-noted, noted-exact, noted-fits}
 use Rattle.matcher.specs.Matcher.{Matcher, hasPlaceholderName}
 use Rattle.record_fields.specs.Fields.{patternName, isFree}
-use Rattle.matching.specs.StartingOver.{next, partner, fieldByName, byName}
+use Rattle.ordered_fields.specs.Order.{next, partner}
+use Rattle.matching.specs.StartingOver.{fieldByName, byName}
 use Rattle.matching.specs.Matching.{Stood}
 use Rattle.matching.proofs.AlongLaws.{next-trivia, by-next, by-stops, by-node}
 

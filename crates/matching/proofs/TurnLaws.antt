@@ -20,7 +20,7 @@ use Rattle.captures.proofs.AttemptLaws.{gives-done, then-right}
 use Rattle.matcher.specs.Matcher.{Matcher}
 use Rattle.matcher.specs.Tokens.{matchesToken, afterToken, note}
 use Rattle.matcher.proofs.TokenLaws.{pass-more}
-use Rattle.matching.specs.StartingOver.{next}
+use Rattle.ordered_fields.specs.Order.{next}
 use Rattle.matching.specs.Matching.{NodeGives, SequencesGive, Went}
 use Rattle.matching.proofs.GiveLaws.{stopped-turn}
 use Rattle.matching.proofs.AlongLaws.{next-trivia, next-after}

@@ -21,10 +21,9 @@ use Rattle.matcher.specs.Matcher.{Matcher, slotOf, isResolved, isCall}
 use Rattle.matcher.specs.Tokens.{matchesToken, afterToken, note}
 use Rattle.token_trees.specs.TokenTrees.{matchTokenTree}
 use Rattle.calls.specs.Calls.{callOf, argumentsOf, argumentOf, receiverOf, firstFits, sameResolution, sameFunction, takesReceiver, receiverFits, prefixed, argumentsLeft}
-use Rattle.record_fields.specs.Fields.{patternName}
-use Rattle.record_fields.specs.declared.Field.{Field}
 use Rattle.matching.specs.RecordFields.{matchFields}
-use Rattle.matching.specs.StartingOver.{next, partner, fieldByName, byName, again}
+use Rattle.ordered_fields.specs.Order.{next}
+use Rattle.matching.specs.StartingOver.{fieldByName, byName, again}
 
 -- a placeholder takes the node, where its constraints allow it; "LITERAL", kind 66
 abbrev pub capture : Matcher → ℕ → Elems → Attempt
@@ -205,10 +204,3 @@ Stands before x pe ps at ce cs from s out =
     (n : ℕ) → enough 4 ps cs < n
     → Stood (cond before (byName false (λ q e. matchOpt n x q e) x (elems pe ps) (elems ce cs) (elems (pe + at) (drop (at * 3) ps)) none) (matched
     [])) from s out
-
--- the code's field that the pattern's sibling behind some elements asks for by its name, where both are matched by order and no name was a
--- placeholder
-pub record AsksFor (on : Bool) (x : Matcher) (pe : ℕ) (ps : List ℕ) (at : ℕ) (ce : ℕ) (cs : List ℕ) (i : ℕ) (r : Field) : Type 0 where
-  pub named : r .named ≡ (on && isNode (elems (pe + at) (drop (at * 3) ps)) && not (isToken (elems (ce + i) (drop (i * 3) cs))) && some (patternName
-      (elems (pe + at) (drop (at * 3) ps))))
-  pub found : r .named ≡ true → elems (ce + r .c) (drop (r .c * 3) cs) ≡ partner x (elems ce cs) (elems (pe + at) (drop (at * 3) ps))

@@ -3,42 +3,17 @@
 -- are noted again.
 -- Assumes nothing.
 use Prim.Native.Nat.{ℕ}
-use mathlib.Core.Bool.{Bool, true, false, cond, not, _&&_, _||_}
+use mathlib.Core.Bool.{Bool, cond, not, _&&_, _||_}
 use mathlib.Core.List.{List, [], _∷_, _++_}
-use lib.Dec.{eqb, ltb}
+use lib.Dec.{ltb}
 use lib.ListN.{length}
 use Rattle.syntax.specs.Trees.{Elems, none, token, node}
-use Rattle.syntax.specs.Accessors.{rest, some, numberOf}
-use Rattle.siblings.specs.Siblings.{isToken, skipTokens}
+use Rattle.syntax.specs.Accessors.{some}
 use Rattle.captures.specs.Attempts.{Event, Attempt, matched, andThen, given, notesOf}
 use Rattle.captures.specs.declared.State.{State}
 use Rattle.matcher.specs.Matcher.{Matcher, hasPlaceholderName}
-use Rattle.record_fields.specs.Fields.{patternName, isFree, fieldFor}
-
--- one of the pattern's siblings has a placeholder as its name
-unfoldable pub startsOver : Matcher → Elems → Bool
-startsOver x none = false
-startsOver x (token i k s e r) = startsOver x r
-startsOver x (node i k s e ds r) = hasPlaceholderName x (node i k s e ds r) || startsOver x r
-
--- By order, siblings that are no tokens stand beside each other: the next one, and what is left of the code behind one of the pattern's
--- siblings.
-abbrev pub next : Elems → Elems
-next d = skipTokens 1 1023 d
-
-abbrev pub past : Elems → Elems → Elems
-past q d = cond (isToken q) d (rest (next d))
-
--- the code's field of the name that one of the pattern's siblings has
-abbrev pub partner : Matcher → Elems → Elems → Elems
-partner x cs q = fieldFor (x .code) (x .text) (x .tree) (x .facts) q cs
-
--- it has a name, and the code's field of that name is the one that stands beside it
-abbrev pub isSame : Elems → Elems → Bool
-isSame a b = some a && some b && eqb (numberOf a) (numberOf b)
-
-abbrev pub isBeside : Matcher → Elems → Elems → Elems → Bool
-isBeside x cs q d = some (patternName q) && isSame (partner x cs q) (next d)
+use Rattle.record_fields.specs.Fields.{patternName, isFree}
+use Rattle.ordered_fields.specs.Order.{past, partner, isBeside}
 
 -- the pattern's siblings by name, up to the first one whose name is a placeholder; those that are matched by order may be left out
 abbrev pub fieldByName : Bool → (Elems → Elems → Attempt) → Matcher → Elems → Elems → Elems → Elems → Attempt

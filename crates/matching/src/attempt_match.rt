@@ -1,7 +1,6 @@
 // `attempt_match_node` of docs/src/src/matching.rs and the functions that it calls and that call it, on parts: its functions `attempt_match_X`
 // are `X` of this module. Document 01: "matching a node calls its child sequence, which calls nodes again, over ever fewer elements". The
 // siblings of a sequence are a loop, whose turn is a function of its own.
-use crate::beside;
 use captures::Answer;
 use captures::State;
 use captures::Turn;
@@ -548,7 +547,7 @@ fn record_field_list(
 {
     let ps = siblings::children(p);
     let cs = siblings::children(c);
-    let over = beside::starts_over(ps, marks, pe + 1);
+    let over = ordered_fields::starts_over(ps, marks, pe + 1);
     let silent = !s.lays | (out.len() < s.noted);
     let r = by_name(
         ps,
@@ -639,7 +638,7 @@ fn by_name(
     let mut t = s;
     loop {
         let q = siblings::behind(p, at);
-        if !beside::goes_on(3 <= q.len(), q, marks, pe + at) {
+        if !ordered_fields::goes_on(3 <= q.len(), q, marks, pe + at) {
             return captures::done(t);
         }
         let r = field(
@@ -663,7 +662,7 @@ fn by_name(
         if r.ok {
             let v = r.state;
             t = v;
-            by = beside::past(q, c, by);
+            by = ordered_fields::past(q, c, by);
             at += siblings::width(q);
         } else {
             return captures::fail();
@@ -699,7 +698,7 @@ fn field(
     let f = record_fields::field_for(p, at, c, rule, file, words, facts, index, ce);
     if f.named {
         if f.free {
-            if leaves & beside::is_same(c, f.c, by) {
+            if leaves & ordered_fields::is_same(c, f.c, by) {
                 return captures::done(s);
             }
             let q = siblings::behind(p, at);
@@ -762,8 +761,8 @@ fn measured(
             }
             return captures::fail();
         }
-        let on = beside::goes_on(before, q, marks, pe + k);
-        let f = beside::asked(on, p, k, c, i, rule, file, words, facts, index, ce);
+        let on = ordered_fields::goes_on(before, q, marks, pe + k);
+        let f = ordered_fields::asked(on, p, k, c, i, rule, file, words, facts, index, ce);
         before = on;
         if f.named & (f.c == i) {
             let r = node(
@@ -856,9 +855,9 @@ fn laid(
             }
             return captures::fail();
         }
-        let on = beside::goes_on(before, q, marks, pe + k);
+        let on = ordered_fields::goes_on(before, q, marks, pe + k);
         let room = t.noted <= out.len();
-        let f = beside::asked(on & room, p, k, c, i, rule, file, words, facts, index, ce);
+        let f = ordered_fields::asked(on & room, p, k, c, i, rule, file, words, facts, index, ce);
         before = on;
         let m = noted(
             p,

@@ -9,7 +9,7 @@ use crate::facts::Facts;
 use crate::rules::{Resolved, Rule};
 use crate::tree::Tree;
 use input::Binding;
-use std::collections::BTreeMap;
+use std::collections::{BTreeMap, BTreeSet};
 use std::rc::Rc;
 
 pub use notes::Notes;
@@ -57,11 +57,17 @@ pub fn match_node(
 ) -> Attempt {
     let mut matcher = Matcher::new(rule, file);
     let found = matcher.get_match(node, range);
+    match matcher.nest {
+        0 | 1 => {}
+        2 => matcher.ways.insert(Way::TwoDeep),
+        3 => matcher.ways.insert(Way::ThreeDeep),
+        _ => matcher.ways.insert(Way::FourDeep),
+    }
     Attempt { found, ways: matcher.ways }
 }
 
-/// What a record list matched with a record list gives, where they match.
-type Shared = Option<(Rc<Notes>, [Option<Binding>; 8])>;
+/// What a record list matched with a record list gives, where they match; and its `nest`.
+type Shared = Option<(Rc<Notes>, [Option<Binding>; 8], usize)>;
 
 struct Matcher<'a> {
     rule: &'a Rule,
@@ -71,6 +77,8 @@ struct Matcher<'a> {
     ways: Ways,
     /// What is known of record lists: one that starts over meets those below it again.
     lists: BTreeMap<(usize, usize), Shared>,
+    /// The most lists that start over in each other, of those that matched.
+    nest: usize,
 }
 
 /// The children of a pattern's node without trivia, from a place on.
@@ -99,7 +107,7 @@ impl Pattern {
 impl<'a> Matcher<'a> {
     fn new(rule: &'a Rule, (code, facts): &'a (Tree, Facts)) -> Matcher<'a> {
         let (ways, lists) = (Ways::default(), BTreeMap::new());
-        Matcher { rule, pattern: &rule.pattern.tree, code, facts, ways, lists }
+        Matcher { rule, pattern: &rule.pattern.tree, code, facts, ways, lists, nest: 0 }
     }
 
     fn get_match(&mut self, node: usize, range: Option<(usize, usize)>) -> Option<Found> {
@@ -266,11 +274,14 @@ impl<'a> Matcher<'a> {
     fn shared_record_list(&mut self, p: usize, c: usize, found: &mut Found) -> Option<()> {
         if !self.lists.contains_key(&(p, c)) {
             let mut own = Found::default();
+            let before = std::mem::take(&mut self.nest);
             let matched = self.record_list(p, c, &mut own);
-            let shared = matched.map(|()| (Rc::new(own.notes), own.bindings));
+            let shared = matched.map(|()| (Rc::new(own.notes), own.bindings, self.nest));
+            self.nest = before;
             self.lists.insert((p, c), shared);
         }
-        let (notes, bindings) = self.lists[&(p, c)].as_ref()?;
+        let (notes, bindings, nest) = self.lists[&(p, c)].as_ref()?;
+        self.nest = self.nest.max(*nest);
         found.notes.add_all(notes);
         for (place, binding) in found.bindings.iter_mut().zip(bindings) {
             *place = binding.or(*place);
@@ -280,16 +291,12 @@ impl<'a> Matcher<'a> {
 
     fn record_list(&mut self, p: usize, c: usize, found: &mut Found) -> Option<()> {
         let mut fields = self.fields_by_name(c);
-        let mut any = false;
+        let mut by_name = Vec::new();
         let pattern = self.pattern;
         for field in pattern.children(p).filter(|&e| pattern.elements[e].node) {
             let Some(name) = pattern.children(field).next() else { continue };
             if self.placeholder(name).is_some() {
-                self.ways.insert(Way::Restart);
-                if any {
-                    self.ways.insert(Way::LateRestart);
-                }
-                return self.children(p, c, found);
+                return self.start_over(p, c, &by_name, found);
             }
             let Some(ident) = only_ident(pattern, name) else {
                 self.ways.insert(Way::SkippedField);
@@ -297,10 +304,36 @@ impl<'a> Matcher<'a> {
             };
             let code = fields.remove(pattern.text_of(ident))?;
             self.node(field, code, found)?;
-            any = true;
+            by_name.push((field, code));
         }
         self.ways.insert(Way::RecordByName);
         fields.is_empty().then_some(())
+    }
+
+    /// All children in order, after some fields were matched by name.
+    fn start_over(
+        &mut self,
+        p: usize,
+        c: usize,
+        by_name: &[(usize, usize)],
+        found: &mut Found,
+    ) -> Option<()> {
+        self.ways.insert(Way::Restart);
+        self.ways.insert(match by_name.len() {
+            0 => Way::RestartAfterNone,
+            1 => Way::RestartAfterOne,
+            _ => Way::RestartAfterMore,
+        });
+        self.children(p, c, found)?;
+        self.nest += 1;
+        // As they match in order, each node has met the one at its place.
+        let nodes = |tree: &'a Tree, list| tree.children(list).filter(|&e| tree.elements[e].node);
+        let in_order: BTreeSet<_> = nodes(self.pattern, p).zip(nodes(self.code, c)).collect();
+        for pair in by_name {
+            let same = in_order.contains(pair);
+            self.ways.insert(if same { Way::SamePair } else { Way::OtherPair });
+        }
+        Some(())
     }
 
     /// The fields of the code by their names; of two with one name the later.

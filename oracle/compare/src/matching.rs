@@ -108,7 +108,7 @@ fn has_bindings(answer: &MatchedNode, known: &CaseMatch) -> bool {
     wanted.chain(unbound).take(answer.bindings.len()).eq(answer.bindings)
 }
 
-/// `count` cases of well-formed rules and files.
+/// `count` cases of well-formed rules and files. Matches have to go every way.
 pub fn generated(seed: u64, count: u64) -> bool {
     let mut tally = Tally::default();
     for index in 0..count {
@@ -116,7 +116,10 @@ pub fn generated(seed: u64, count: u64) -> bool {
         let case = Named { name: &|| format!("case {index}"), rules: &rules, file: &file };
         tally.add(&case, ALL, &mut Rng::new(&[seed, index]), |_, _| {});
     }
-    tally.print()
+    let equal = tally.print();
+    let missing = tally.missing_ways();
+    println!("ways that no match went: {missing:?}");
+    equal && missing.is_empty()
 }
 
 /// Every small pattern with every small code, of which every `step`th is taken.

@@ -21,7 +21,7 @@
 
 use std::collections::BTreeMap;
 
-use checker::WAYS;
+use checker::{WAYS, Way};
 use generator::bent_matches::bend_copy;
 use generator::{Rng, odd_matches, rule_vectors};
 use input::{Answer, File, Rules};
@@ -34,16 +34,29 @@ use crate::sample::{bytes, record, trimmed, words};
 /// The number of the operation in a record.
 const MATCH_NODE: u32 = 8;
 
-/// About the most elements of a generated pattern; the most words of rules and file together, and the
-/// most of a vector, whose tree may have 129 levels; the most bytes of a text.
+/// About the most elements of a generated pattern.
 const ELEMENTS: usize = 9;
-const WORDS: usize = 330;
-const VECTOR_WORDS: usize = 700;
-const BYTES: usize = 260;
+/// The most words of one part.
+const PART: usize = 512;
+
+/// The most words and the most bytes of rules and file together.
+#[derive(Clone, Copy)]
+struct Room {
+    words: usize,
+    bytes: usize,
+}
+
+const SMALL: Room = Room { words: 330, bytes: 260 };
+/// A vector's tree may have 129 levels.
+const VECTOR: Room = Room { words: 700, bytes: 260 };
+/// Record lists in each other.
+const NEST: Room = Room { words: 700, bytes: 520 };
 /// The longest buffer.
 const BUFFER: usize = 64;
 /// Cases that are looked through; of these every second is a damaged copy.
 const CASES: u64 = 100_000;
+/// Whole cases that are looked through again with more room, for what the small ones lack.
+const LARGER_CASES: u64 = 20_000;
 /// For so many lists of the sample there is each of the shares once.
 const LISTS: usize = 440;
 
@@ -97,14 +110,18 @@ impl Reason {
 pub fn make(seed: u64, count: usize) -> Result<Vec<u8>, String> {
     let mut choice = Choice { times: count.div_ceil(LISTS), ..Choice::default() };
     for (_, rules, _) in rule_vectors::all() {
-        choice.add(&rules, &small_file(seed), VECTOR_WORDS, seed)?;
+        choice.add(&rules, &small_file(seed), VECTOR, seed)?;
     }
     for index in 0..CASES {
         let (mut rules, mut file) = odd_matches::random(seed, index / 2, ELEMENTS);
         if index % 2 == 1 {
             bend_copy(seed, index, &mut rules, &mut file);
         }
-        choice.add(&rules, &file, WORDS, index)?;
+        choice.add(&rules, &file, SMALL, index)?;
+    }
+    for index in 0..LARGER_CASES {
+        let (rules, file) = odd_matches::random(seed, index, ELEMENTS);
+        choice.add(&rules, &file, NEST, index)?;
     }
     choice.finish()
 }
@@ -126,8 +143,8 @@ struct Choice {
 
 impl Choice {
     /// Chooses among the questions about rules and a file, where these are small.
-    fn add(&mut self, rules: &Rules, file: &File, most: usize, index: u64) -> Result<(), String> {
-        if !is_small(rules, file, most) {
+    fn add(&mut self, rules: &Rules, file: &File, room: Room, index: u64) -> Result<(), String> {
+        if !is_small(rules, file, room) {
             return Ok(());
         }
         let rng = &mut Rng::new(&[index]);
@@ -158,9 +175,10 @@ impl Choice {
 
     fn finish(self) -> Result<Vec<u8>, String> {
         let numbers = NUMBERS.into_iter().map(Reason::Refused);
-        // More placeholders take more room: they come as they come.
+        // More placeholders take more room, and so do more lists: they come as they come.
         let bound = (0..=4).map(Reason::Bound);
-        let ways = (0..WAYS.len()).map(Reason::Matched);
+        let has_room = |place: &usize| WAYS[*place].0 != Way::FourDeep;
+        let ways = (0..WAYS.len()).filter(has_room).map(Reason::Matched);
         let mut missing = numbers.chain(bound).chain(ways).chain([Reason::Noted]);
         match missing.find(|reason| !self.met.contains_key(reason)) {
             Some(reason) if self.times > 0 => Err(format!("{reason:?} is missing")),
@@ -169,10 +187,12 @@ impl Choice {
     }
 }
 
-fn is_small(rules: &Rules, file: &File, most: usize) -> bool {
+fn is_small(rules: &Rules, file: &File, room: Room) -> bool {
     let words = [&rules.directory, &rules.words, &file.tree, &file.facts].map(Vec::len);
     let texts = [&rules.bytes, &rules.fact_text, &file.text].map(Vec::len);
-    words.iter().sum::<usize>() <= most && texts.iter().sum::<usize>() <= BYTES
+    words.iter().all(|words| *words <= PART)
+        && words.iter().sum::<usize>() <= room.words
+        && texts.iter().sum::<usize>() <= room.bytes
 }
 
 /// Whether a call can be stored.

@@ -166,7 +166,7 @@ fn as_method_call(children: &[Syntax], keep: bool) -> Option<Syntax> {
     Some(node(METHOD_CALL_EXPR, [receiver, mark("."), name, node(ARG_LIST, rest)]))
 }
 
-fn shuffle_fields(rng: &mut Rng, children: &mut [Syntax]) {
+pub fn shuffle_fields(rng: &mut Rng, children: &mut [Syntax]) {
     let places: Vec<usize> =
         (0..children.len()).filter(|&i| is_kind(&children[i], RECORD_FIELD)).collect();
     let mut fields: Vec<Syntax> = places.iter().map(|&i| children[i].clone()).collect();
@@ -177,7 +177,7 @@ fn shuffle_fields(rng: &mut Rng, children: &mut [Syntax]) {
 }
 
 /// Adds a comma before the closing token, or takes the one there away.
-fn toggle_trailing_comma(children: &mut Vec<Syntax>) {
+pub fn toggle_trailing_comma(children: &mut Vec<Syntax>) {
     let Some(last) = children.len().checked_sub(1) else {
         return;
     };

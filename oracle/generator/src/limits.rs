@@ -235,7 +235,7 @@ fn doubled(count: usize) -> Operation {
 
 /// Record lists so deep, each with a field `x` and a placeholder name: each starts over. In each there
 /// may be a comment.
-pub fn restarts(depth: usize, comments: bool) -> Operation {
+fn restarts(depth: usize, comments: bool) -> Operation {
     let list = |inner: Option<Syntax>, name: Syntax, rest: &[Syntax]| {
         let field = inner.map(|inner| node(RECORD_FIELD, [ident("x"), inner]));
         let named = [&[node(NAME_REF, [name])], rest, &[ident("k")]].concat();

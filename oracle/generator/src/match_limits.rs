@@ -1,14 +1,19 @@
 //! Matching that takes long if it is done badly: trees as wide and as deep as they may be, runs that do
 //! not end, record lists of many fields, lists that start over inside each other.
 
+mod nests;
+
 use crate::facts::paths;
 use crate::kinds::*;
-use crate::limits::{plain_file, restarts};
+use crate::limits::plain_file;
 use crate::parts::*;
 use crate::tree_limits::chains;
 use input::build::{Syntax, fact, node, token, token_list};
 use input::pairs::encode;
-use input::{File, Operation, Pair, RuleTree, Rules, Side};
+use input::{File, Pair, RuleTree, Rules, Side};
+use std::time::Duration;
+
+pub use nests::Noted;
 
 /// The most elements of a tree, and the most facts.
 const MOST: usize = 16_383;
@@ -16,16 +21,25 @@ const MOST: usize = 16_383;
 const BUFFER: usize = 1_048_583;
 /// Levels that fit the depth of 128 where each takes two.
 const LEVELS: usize = 60;
+/// What a call may take.
+const WITHIN: Duration = Duration::from_secs(1);
 /// The type of every receiver, and the function of every method call.
 const TYPE: u32 = 9;
 const FUNCTION: u32 = 30;
 
 /// Rules with one rule, and a file, to match the file's root with it.
 pub struct MatchLimit {
-    pub name: &'static str,
+    pub name: String,
     pub rules: Rules,
     pub file: File,
-    pub buffer: usize,
+    /// The lengths of the buffers to ask with.
+    pub buffers: Vec<usize>,
+    /// What a call may take.
+    pub within: Duration,
+    /// The answer has to be the crate's too.
+    pub by_crate: bool,
+    /// What the match notes, if there has to be one.
+    pub noted: Option<Noted>,
 }
 
 pub fn all() -> Vec<MatchLimit> {
@@ -34,17 +48,28 @@ pub fn all() -> Vec<MatchLimit> {
     all.extend(token_trees());
     all.extend(record_lists());
     all.extend(facts());
-    all.extend(starting_over());
+    all.extend(nests::all());
     all
 }
 
-fn limit(name: &'static str, pattern: Side, file: File) -> MatchLimit {
-    let rules = encode(&[Pair { pattern, ..Pair::default() }], b"");
-    MatchLimit { name, rules, file, buffer: BUFFER }
+fn limit(name: &str, pattern: Side, file: File) -> MatchLimit {
+    of_pair(name, Pair { pattern, ..Pair::default() }, file, BUFFER)
+}
+
+fn of_pair(name: &str, pair: Pair, file: File, buffer: usize) -> MatchLimit {
+    MatchLimit {
+        name: name.to_owned(),
+        rules: encode(&[pair], b""),
+        file,
+        buffers: vec![buffer],
+        within: WITHIN,
+        by_crate: false,
+        noted: None,
+    }
 }
 
 /// A pattern and a code without facts.
-fn plain(name: &'static str, pattern: &Syntax, code: &Syntax) -> MatchLimit {
+fn plain(name: &str, pattern: &Syntax, code: &Syntax) -> MatchLimit {
     limit(name, side(pattern), plain_file(code))
 }
 
@@ -241,23 +266,5 @@ fn template_paths() -> MatchLimit {
     template_side.trees[0].facts = (1..=MOST / 2).flat_map(both).collect();
     let pair = Pair { pattern: side(&literal), has_template: true, template: template_side };
     let file = File { facts: fact(6, 0, [1, 0, 0]).to_vec(), ..plain_file(&literal) };
-    MatchLimit { name: "8,191 paths of a template", rules: encode(&[pair], b""), file, buffer: 0 }
-}
-
-/// Record lists inside each other that all start over, with a comment in each or without.
-fn starting_over() -> Vec<MatchLimit> {
-    let of = |name, depth, comments| {
-        let Operation::MatchNode { rules, file, .. } = restarts(depth, comments) else {
-            return None;
-        };
-        Some(MatchLimit { name, rules, file, buffer: BUFFER })
-    };
-    let all = [
-        of("6 lists that start over", 6, true),
-        of("12 lists that start over", 12, true),
-        of("20 lists that start over", 20, true),
-        of("60 lists that start over", LEVELS, true),
-        of("60 lists that start over, no comments", LEVELS, false),
-    ];
-    all.into_iter().flatten().collect()
+    of_pair("8,191 paths of a template", pair, file, 0)
 }

@@ -1,7 +1,9 @@
 //! Code for patterns that no parser makes: a copy of the pattern with its placeholders filled, then
 //! changes that a match may survive.
 
-use crate::derive::{sprinkle, vary};
+mod nests;
+
+use crate::derive::{shuffle_fields, sprinkle, vary};
 use crate::kinds::*;
 use crate::parts::*;
 use crate::rng::Rng;
@@ -36,7 +38,8 @@ impl OddFiller<'_> {
             return element.clone();
         };
         if !tree && only_ident(element).is_some_and(is_stand_in) {
-            return self.captured(element);
+            let field = *kind == RECORD_FIELD && self.rng.chance(70);
+            return if field { self.captured_field() } else { self.captured(element) };
         }
         if tree || *kind == TOKEN_TREE {
             return node(*kind, self.token_tree(children));
@@ -53,6 +56,9 @@ impl OddFiller<'_> {
             if !is_trivia(child) || self.rng.chance(30) {
                 filled.push(self.fill(child, false));
             }
+        }
+        if *kind == RECORD_LIST && !starts_over(children) && self.rng.chance(30) {
+            shuffle_fields(self.rng, &mut filled);
         }
         node(*kind, filled)
     }
@@ -78,6 +84,13 @@ impl OddFiller<'_> {
             10 => node(63, [node(LITERAL, [])]),
             _ => path_expr(path_of(any_name(self.rng, &world::LOCALS))),
         }
+    }
+
+    /// What a placeholder captures that is a whole field.
+    fn captured_field(&mut self) -> Syntax {
+        let name = node(NAME_REF, [any_name(self.rng, &world::LOCALS)]);
+        let value = node(LITERAL, [token(NUMBER, "1")]);
+        node(RECORD_FIELD, [name, mark(":"), value])
     }
 
     fn token_tree(&mut self, pattern: &[Syntax]) -> Vec<Syntax> {
@@ -130,6 +143,13 @@ impl OddFiller<'_> {
         }
         rest
     }
+}
+
+/// Whether a placeholder is a field's name.
+fn starts_over(list: &[Syntax]) -> bool {
+    let name =
+        |field: &Syntax| field.children().first().and_then(only_ident).is_some_and(is_stand_in);
+    list.iter().any(name)
 }
 
 fn is_trivia(element: &Syntax) -> bool {

@@ -15,6 +15,8 @@ pub struct Care {
     pub fed: bool,
     /// Of a hundred facts, how many are left out or changed.
     pub faults: usize,
+    /// Of a hundred fields, how many are named by any of their tokens; as many have no name.
+    pub renamed: usize,
 }
 
 /// What a name that is not known means.
@@ -107,7 +109,7 @@ fn own_fact(rng: &mut Rng, i: usize, element: &Syntax, care: Care) -> Option<[u3
     match element.kind() {
         PATH => Some(fact(0, i, [number_of(rng, path_name(element), care), 0, 0])),
         METHOD_CALL_EXPR => Some(method_fact(rng, i, element, care)),
-        RECORD_FIELD => field_fact(rng, i, element),
+        RECORD_FIELD => field_fact(rng, i, element, care),
         _ => None,
     }
 }
@@ -119,11 +121,11 @@ fn method_fact(rng: &mut Rng, i: usize, call: &Syntax, care: Care) -> [u32; 4] {
 }
 
 /// The name token of a field: its first but white space and comments, seldom another or none.
-fn field_fact(rng: &mut Rng, i: usize, field: &Syntax) -> Option<[u32; 4]> {
+fn field_fact(rng: &mut Rng, i: usize, field: &Syntax, care: Care) -> Option<[u32; 4]> {
     let elements = field.elements();
     let tokens: Vec<usize> = (0..elements.len()).filter(|&e| !elements[e].is_node()).collect();
     let is_name = |e: &&usize| !matches!(elements[**e].kind(), WHITESPACE | COMMENT);
     let first = tokens.iter().find(is_name).or(tokens.last())?;
-    let name = if rng.chance(3) { rng.pick(&tokens) } else { first };
-    (!rng.chance(4)).then(|| fact(5, i, [(i + name) as u32, 0, 0]))
+    let name = if rng.chance(care.renamed) { rng.pick(&tokens) } else { first };
+    (!rng.chance(care.renamed)).then(|| fact(5, i, [(i + name) as u32, 0, 0]))
 }

@@ -23,7 +23,11 @@ pub fn random(seed: u64, index: u64, most: usize) -> (Rules, File) {
         return rules_and_file(rng);
     }
     let faults = if rng.chance(75) { 0 } else { rng.between(1, 10) };
-    Case { rng, care: Care { fed: true, faults }, most, patterns: Vec::new() }.make()
+    let nested = rng.chance(20);
+    // A nest has many fields, which all have to match.
+    let renamed = if nested { *rng.pick(&[0, 0, 10]) } else { 3 };
+    let care = Care { fed: true, faults, renamed };
+    Case { rng, care, most, nested, patterns: Vec::new() }.make()
 }
 
 /// The trees of the patterns are what the file is made of.
@@ -31,6 +35,8 @@ struct Case<'a> {
     rng: &'a mut Rng,
     care: Care,
     most: usize,
+    /// The patterns are record lists in each other.
+    nested: bool,
     patterns: Vec<Syntax>,
 }
 
@@ -38,7 +44,9 @@ impl Case<'_> {
     fn make(mut self) -> (Rules, File) {
         self.care.fed = self.rng.chance(88);
         let mut fact_text = b"..".to_vec();
-        let count = *self.rng.pick(&[1, 1, 1, 1, 2, 2, 3]);
+        // Nests are large: mostly there is one, and one tree of it.
+        let counts = if self.nested { &[1, 1, 1, 2][..] } else { &[1, 1, 1, 1, 2, 2, 3] };
+        let count = *self.rng.pick(counts);
         let pairs: Vec<Pair> = (0..count).map(|_| self.pair(&mut fact_text)).collect();
         let root = self.code();
         let facts = file_facts(self.rng, &root, self.care);
@@ -48,14 +56,17 @@ impl Case<'_> {
 
     fn pair(&mut self, fact_text: &mut Vec<u8>) -> Pair {
         let names = &NAMES[..*self.rng.pick(&[0, 1, 1, 2, 2, 2, 3, 3, 4, 5, 6, 7, 8])];
-        let tree = self.tree(names);
+        let tree = if self.nested { self.nest(names) } else { self.tree(names) };
         let names = occurring(&tree, names);
-        let forms = forms(self.rng);
-        let care = self.care;
-        let (pattern, trees) =
-            self.side(&tree, &names, forms, 20, |rng, root| pattern_facts(rng, root, care));
+        let forms = match self.nested && self.rng.chance(70) {
+            true => [true, false, false, false, false],
+            false => forms(self.rng),
+        };
+        let (care, constrained) = (self.care, if self.nested { 4 } else { 20 });
+        let (pattern, trees) = self
+            .side(&tree, &names, forms, constrained, |rng, root| pattern_facts(rng, root, care));
         self.patterns.extend(trees);
-        if self.rng.chance(45) {
+        if self.rng.chance(if self.nested { 75 } else { 45 }) {
             return Pair { pattern, ..Pair::default() };
         }
         let tree = self.tree(&names);
@@ -76,6 +87,21 @@ impl Case<'_> {
             tree = node(LITERAL, [token(NUMBER, "1")]);
         }
         tree
+    }
+
+    /// Record lists, two to six in each other.
+    fn nest(&mut self, names: &[&str]) -> Syntax {
+        let lists = self.rng.between(2, (self.most / 6).clamp(4, 6));
+        let marks = self.rng.chance(self.most.min(60));
+        for lists in (1..=lists).rev() {
+            let rng = &mut *self.rng;
+            let tree = OddPattern { rng, names, left: self.most }.nest(lists, marks);
+            // As above.
+            if tree.tokens().len() <= 120 {
+                return tree;
+            }
+        }
+        self.tree(names)
     }
 
     /// The side, and its trees.
@@ -107,7 +133,7 @@ impl Case<'_> {
             return self.piece();
         }
         let mut children = Vec::new();
-        for _ in 0..self.rng.between(1, 3) {
+        for _ in 0..self.rng.between(1, if self.nested { 2 } else { 3 }) {
             children.push(self.piece());
             match self.rng.below(6) {
                 0 => children.push(token(WHITESPACE, "\n")),
@@ -124,6 +150,9 @@ impl Case<'_> {
 
     fn piece(&mut self) -> Syntax {
         let Case { rng, patterns, .. } = self;
+        if self.nested && rng.chance(75) {
+            return OddFiller { rng, patterns, budget: 0, nest: 0 }.nest();
+        }
         OddFiller { rng, patterns, budget: 60, nest: 3 }.instance()
     }
 }

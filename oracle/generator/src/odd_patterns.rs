@@ -1,11 +1,15 @@
 //! Patterns that no parser makes, for matching: token trees, record lists, calls and paths with parts
 //! missing, repeated or out of place, placeholders in any of them, and trivia anywhere.
 
+mod nests;
+
 use crate::kinds::*;
 use crate::parts::*;
 use crate::rng::Rng;
 use crate::world;
 use input::build::{Syntax, node, token};
+
+pub use nests::PATH_NAMES;
 
 /// Kinds of nodes without a meaning of their own, expressions and others.
 const NODES: [u32; 10] =

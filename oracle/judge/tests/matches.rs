@@ -46,7 +46,7 @@ fn all_questions_are_answered_as_one_is() {
 fn every_node_agrees_with_every_rule() {
     let (mut same, mut matches) = (0, 0);
     ssr::on_large_stack(|| {
-        for (rules, file) in (0..1_000).map(|index| odd_matches::random(7, index, 36)) {
+        for (rules, file) in (0..1_200).map(|index| odd_matches::random(7, index, 36)) {
             whole_matches(&rules, &file, |whole| {
                 let pairs = |node| (0..whole.rules()).map(move |rule| (node, rule));
                 for (node, rule) in whole.nodes().into_iter().flat_map(pairs) {
@@ -67,13 +67,26 @@ fn limits_agree_where_the_crate_ends() {
     let mut same = 0;
     ssr::on_large_stack(|| {
         for limit in match_limits::all() {
-            let question = MatchQuestion { node: 0, rule: 0, range: None, buffer: limit.buffer };
-            let judged = whole_matches(&limit.rules, &limit.file, |whole| whole.ask(question));
-            assert!(!matches!(judged.backing, Backing::Other(_)), "{}: {judged:?}", limit.name);
-            same += u32::from(matches!(judged.backing, Backing::Same));
+            whole_matches(&limit.rules, &limit.file, |whole| {
+                for &buffer in &limit.buffers {
+                    let judged = whole.ask(MatchQuestion { node: 0, rule: 0, range: None, buffer });
+                    let (name, backing) = (&limit.name, &judged.backing);
+                    assert!(!matches!(backing, Backing::Other(_)), "{name}: {backing:?}");
+                    let by_crate = matches!(backing, Backing::Same);
+                    assert!(by_crate || !limit.by_crate, "{name}: {backing:?}");
+                    same += u32::from(by_crate);
+                    let noted = limit.noted.as_ref();
+                    let told = noted.is_none_or(|noted| noted.is_told(&judged.outcome));
+                    assert!(
+                        told,
+                        "{name}, a buffer of {buffer} bytes: {:?}",
+                        judged.outcome.answer
+                    );
+                }
+            });
         }
     });
-    assert!(same > 20, "{same}");
+    assert!(same > 400, "{same}");
 }
 
 #[test]

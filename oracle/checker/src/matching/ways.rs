@@ -24,8 +24,18 @@ pub enum Way {
     /// A field of the pattern that has no lone identifier first.
     SkippedField,
     Restart,
-    /// A record list starts over after some of its fields were matched by name.
-    LateRestart,
+    /// A record list starts over after so many of its fields were matched by name.
+    RestartAfterNone,
+    RestartAfterOne,
+    RestartAfterMore,
+    /// A list that starts over matches a field with the same one by name and in order, or by name
+    /// with another than in order.
+    SamePair,
+    OtherPair,
+    /// So many lists in each other start over; the last is four or more.
+    TwoDeep,
+    ThreeDeep,
+    FourDeep,
     TokenTree,
     TokenRun,
     /// A run ends at its stop text; at a subtree that begins with it; or the subtree uses up an
@@ -46,7 +56,7 @@ pub enum Way {
     TemplatePath,
 }
 
-pub const WAYS: [(Way, &str); 26] = [
+pub const WAYS: [(Way, &str); 33] = [
     (Way::MethodCall, "a claimed call meets a method call"),
     (Way::Receiver, "its receiver is the first argument"),
     (Way::SeveralSteps, "after one step or more"),
@@ -60,7 +70,14 @@ pub const WAYS: [(Way, &str); 26] = [
     (Way::NamelessField, "a field without a name in the code"),
     (Way::SkippedField, "a field of the pattern skipped"),
     (Way::Restart, "a record list starts over"),
-    (Way::LateRestart, "after a field was matched by name"),
+    (Way::RestartAfterNone, "after no field by name"),
+    (Way::RestartAfterOne, "after one field by name"),
+    (Way::RestartAfterMore, "after two fields or more by name"),
+    (Way::SamePair, "a pair by name and in order"),
+    (Way::OtherPair, "another pair by name than in order"),
+    (Way::TwoDeep, "two that start over in each other"),
+    (Way::ThreeDeep, "three in each other"),
+    (Way::FourDeep, "four or more in each other"),
     (Way::TokenTree, "a token tree"),
     (Way::TokenRun, "a run of tokens"),
     (Way::StoppedByToken, "stopped by a token"),
@@ -77,7 +94,7 @@ pub const WAYS: [(Way, &str); 26] = [
 
 /// A set of ways.
 #[derive(Clone, Copy, Debug, Default, PartialEq, Eq)]
-pub struct Ways(u32);
+pub struct Ways(u64);
 
 impl Ways {
     pub fn contains(self, way: Way) -> bool {

@@ -1,53 +1,88 @@
 //! Matching that takes long if it is done badly: each answer as it has to be, in time and on a small
 //! stack.
 
+use std::sync::Arc;
 use std::sync::mpsc::channel;
 use std::thread;
 use std::time::{Duration, Instant};
 
 use generator::match_limits::{self, MatchLimit};
 use input::Answer;
-use judge::{Backing, JudgedMatch, MatchQuestion, whole_matches};
+use judge::{Backing, JudgedMatch, MatchQuestion, WholeMatches, whole_matches};
 
 use super::tally::Given;
 use crate::library::matching::{Call, judged_match, match_node};
 use crate::small_stack::OF_MATCHING;
 
-/// What a call may take, and how long it is waited for.
-const LIMIT: Duration = Duration::from_secs(1);
+/// How long a call is waited for.
 const WAIT: Duration = Duration::from_secs(20);
 
 /// Whether all have the judged answer in time. A call that does not come back is left alone: the end
 /// of the program ends it.
 pub fn limits() -> bool {
-    println!("milliseconds of one call, on a stack of {OF_MATCHING} bytes:");
+    println!("milliseconds of one call, the longest, on a stack of {OF_MATCHING} bytes:");
     let (mut equal, mut failed) = (0, 0);
-    for limit in match_limits::all() {
-        let question = MatchQuestion { node: 0, rule: 0, range: None, buffer: limit.buffer };
-        let judged = whole_matches(&limit.rules, &limit.file, |whole| whole.ask(question));
-        let (name, whose) = (limit.name, whose(&judged.backing));
-        let answer = shown(&judged.outcome.answer);
-        let (time, verdict) = match asked(limit, Call::of(question)) {
-            None => (WAIT, Err("no answer".to_owned())),
-            Some((time, _)) if time > LIMIT => (time, Err("too long".to_owned())),
-            Some((time, given)) => (time, compared(judged, given, question.buffer)),
-        };
-        let milliseconds = time.as_secs_f64() * 1_000.0;
-        println!("{milliseconds:9.3}  {name}: {answer}, {whose}");
-        match verdict {
-            Ok(()) => equal += 1,
-            Err(what) => {
-                failed += 1;
-                println!("           different: {what}");
+    for limit in match_limits::all().into_iter().map(Arc::new) {
+        let answers = whole_matches(&limit.rules, &limit.file, |whole| {
+            let answer = |buffer: &usize| answered(&limit, whole, *buffer);
+            limit.buffers.iter().map(answer).collect::<Vec<_>>()
+        });
+        let longest = answers.iter().map(|answer| answer.time).max().unwrap_or_default();
+        let shown: Vec<&str> = answers.iter().map(|answer| &answer.shown[..]).collect();
+        println!("{:9.3}  {}: {}", longest.as_secs_f64() * 1_000.0, limit.name, shown.join("; "));
+        for (answer, buffer) in answers.into_iter().zip(&limit.buffers) {
+            match answer.verdict {
+                Ok(()) => equal += 1,
+                Err(what) => {
+                    failed += 1;
+                    println!("           different with a buffer of {buffer} bytes: {what}");
+                }
             }
         }
     }
-    println!("{} limits: {equal} equal and in time, {failed} not", equal + failed);
+    println!("{} answers: {equal} equal and in time, {failed} not", equal + failed);
     failed == 0
 }
 
+/// What came of a question.
+struct Answered {
+    time: Duration,
+    /// What was judged, and by whom.
+    shown: String,
+    verdict: Result<(), String>,
+}
+
+fn answered(limit: &Arc<MatchLimit>, whole: &WholeMatches, buffer: usize) -> Answered {
+    let question = MatchQuestion { node: 0, rule: 0, range: None, buffer };
+    let judged = whole.ask(question);
+    let shown = format!("{}, {}", shown(&judged.outcome.answer), whose(&judged.backing));
+    let expected = expected(limit, &judged);
+    let (time, verdict) = match asked(limit.clone(), Call::of(question)) {
+        None => (WAIT, Err("no answer".to_owned())),
+        Some((time, given)) => {
+            let verdict = expected.and_then(|()| compared(judged, given, buffer));
+            let late = || Err(format!("{time:?} are too long"));
+            (time, if time > limit.within { late() } else { verdict })
+        }
+    };
+    Answered { time, shown, verdict }
+}
+
+/// Whether the judged answer is the one that the case was made for.
+fn expected(limit: &MatchLimit, judged: &JudgedMatch) -> Result<(), String> {
+    if limit.by_crate && !matches!(judged.backing, Backing::Same) {
+        return Err(format!("not the crate's own: {:?}", judged.backing));
+    }
+    match &limit.noted {
+        Some(noted) if !noted.is_told(&judged.outcome) => {
+            Err(format!("judged otherwise than expected, which notes {} bytes", noted.length))
+        }
+        _ => Ok(()),
+    }
+}
+
 /// The time of the call and what it gives, if it comes back.
-fn asked(limit: MatchLimit, call: Call) -> Option<(Duration, Given)> {
+fn asked(limit: Arc<MatchLimit>, call: Call) -> Option<(Duration, Given)> {
     let (sender, receiver) = channel();
     let work = move || {
         let start = Instant::now();

@@ -11,6 +11,8 @@ use crate::rules::NO_NUMBER;
 /// that has bytes beyond its used part.
 const MORE: usize = 24;
 const LARGE: usize = 2_000;
+/// Room for the comments of nearly all matches, to know how long they are.
+const ROOMY: usize = 4_096;
 
 /// How pairs of a node and a rule are asked about.
 #[derive(Clone, Copy)]
@@ -77,7 +79,10 @@ pub fn of_pairs(
 fn again(whole: &WholeMatches, asked: &Asked, rng: &mut Rng) -> Vec<Call> {
     let call = asked.call;
     let mut more = Vec::new();
-    let needs = asked.needs();
+    let mut needs = asked.needs();
+    if needs.is_some_and(|length| length > call.buffer) && call.buffer < ROOMY {
+        needs = Asked::new(whole, Call { buffer: ROOMY, ..call }).needs();
+    }
     if let Some(length) = needs {
         let lengths = [length, length.saturating_sub(1), length + 1, 0, 1];
         more.push(Call { buffer: *rng.pick(&lengths), ..call });

@@ -49,7 +49,7 @@ pub struct Tally {
     noting: u64,
     noted: u64,
     /// For each way how many answers went it, and how many of these are matches.
-    ways: [(u64, u64); WAYS.len()],
+    ways: BTreeMap<&'static str, (u64, u64)>,
     /// The smallest call with a difference, and what is said of it.
     smallest: Option<(usize, String)>,
 }
@@ -124,11 +124,10 @@ impl Tally {
     }
 
     fn count_ways(&mut self, gone: Ways, matched: bool) {
-        for ((way, _), (all, matches)) in WAYS.iter().zip(&mut self.ways) {
-            if gone.contains(*way) {
-                *all += 1;
-                *matches += u64::from(matched);
-            }
+        for (_, name) in WAYS.into_iter().filter(|(way, _)| gone.contains(*way)) {
+            let (all, matches) = self.ways.entry(name).or_default();
+            *all += 1;
+            *matches += u64::from(matched);
         }
     }
 
@@ -168,11 +167,18 @@ impl Tally {
         NUMBERS.into_iter().filter(|number| !self.numbers.contains_key(number)).collect()
     }
 
+    /// The ways that no match went.
+    pub fn missing_ways(&self) -> Vec<&'static str> {
+        let matches = |name| self.ways.get(name).map_or(0, |(_, matches)| *matches);
+        WAYS.into_iter().map(|(_, name)| name).filter(|&name| matches(name) == 0).collect()
+    }
+
     /// Prints all that was counted: whether all answers are equal.
     pub fn print(&self) -> bool {
         self.print_answers();
         println!("{:40}{:>12}{:>12}", "", "answers", "matches");
-        for ((_, name), (all, matches)) in WAYS.iter().zip(self.ways) {
+        for (_, name) in WAYS {
+            let (all, matches) = self.ways.get(name).copied().unwrap_or_default();
             println!("{name:40}{all:12}{matches:12}");
         }
         let Tally {

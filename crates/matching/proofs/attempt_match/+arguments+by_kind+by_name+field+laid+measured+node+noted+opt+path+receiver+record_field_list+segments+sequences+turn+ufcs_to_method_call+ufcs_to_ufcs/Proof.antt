@@ -120,11 +120,11 @@ use Rattle.captures.proofs.count_again.Reads as count-again-reads
 use Rattle.captures.proofs.fits.Reads as fits-reads
 use Rattle.captures.proofs.lay_again.Reads as lay-again-reads
 use Rattle.captures.proofs.moved.Reads as moved-reads
-use Rattle.matching.proofs.beside.asked.Reads as asked-reads
-use Rattle.matching.proofs.beside.goes_on.Reads as goes-on-reads
-use Rattle.matching.proofs.beside.is_same.Reads as is-same-reads
-use Rattle.matching.proofs.beside.past.Reads as past-reads
-use Rattle.matching.proofs.beside.starts_over.Reads as starts-over-reads
+use Rattle.ordered_fields.proofs.asked.Reads as asked-reads
+use Rattle.ordered_fields.proofs.goes_on.Reads as goes-on-reads
+use Rattle.ordered_fields.proofs.is_same.Reads as is-same-reads
+use Rattle.ordered_fields.proofs.past.Reads as past-reads
+use Rattle.ordered_fields.proofs.starts_over.Reads as starts-over-reads
 
 abbrev μ-arguments : Measures 9 arguments-kinds.ps ℕ
 μ-arguments κs a = 5 * (length (now (a .0)) + length (now (a .1 .0))) + 4
@@ -1084,7 +1084,7 @@ laid-sub-lay-again t c =
     c₁₁ .before .before .before .before .before .before .before .before in
     omega (
       arith,
-      (c₂ .fits2 .ensures (and-both (c₁₁ .asked .result .named && eqb (c₁₁ .asked .result .c) (c₁₉ .loop .i)) (c₂ .fits2 .result)
+      (c₂ .fits2 .ensures .0 (and-both (c₁₁ .asked .result .named && eqb (c₁₁ .asked .result .c) (c₁₉ .loop .i)) (c₂ .fits2 .result)
           (c₁ .if4 .taken) .1)) .0,
     )
 
@@ -1095,7 +1095,7 @@ laid-lay-again-requires t c κs =
     in let c₁₉ = c₁₈ .before in let c₂₉ = c₁₉ .before .before .before .before .before .before .before .before .before .before in let a =
     c₂₉ .args in let l = c₁₉ .loop in let matcher = matcherOf (now (a .rule)) (now (a .file)) (now (a .marks)) (now (a .words)) (now (a .facts))
     (a .cx) in let pair = and-both (c₁₁ .asked .result .named && eqb (c₁₁ .asked .result .c) (l .i)) (c₂ .fits2 .result) (c₁ .if4 .taken) .0 in
-    let fits = c₂ .fits2 .ensures (and-both (c₁₁ .asked .result .named && eqb (c₁₁ .asked .result .c) (l .i)) (c₂ .fits2 .result)
+    let fits = c₂ .fits2 .ensures .0 (and-both (c₁₁ .asked .result .named && eqb (c₁₁ .asked .result .c) (l .i)) (c₂ .fits2 .result)
     (c₁ .if4 .taken) .1) in (
       omega (
         arith,
@@ -1117,7 +1117,7 @@ laid-sub-moved t c =
     c₁₄ .before .before .before .before .before .before .before .before in
     omega (
       arith,
-      (c₅ .fits2 .ensures (and-both (c₁₄ .asked .result .named && eqb (c₁₄ .asked .result .c) (c₂₂ .loop .i)) (c₅ .fits2 .result)
+      (c₅ .fits2 .ensures .0 (and-both (c₁₄ .asked .result .named && eqb (c₁₄ .asked .result .c) (c₂₂ .loop .i)) (c₅ .fits2 .result)
           (c₄ .if4 .taken) .1)) .0,
     )
 
@@ -1128,7 +1128,7 @@ laid-add-moved t c =
     c₂₃ .before .before .before .before .before .before .before .before .before .before in
     omega (
       arith,
-      (c₆ .fits2 .ensures (and-both (c₁₅ .asked .result .named && eqb (c₁₅ .asked .result .c) (c₂₃ .loop .i)) (c₆ .fits2 .result)
+      (c₆ .fits2 .ensures .0 (and-both (c₁₅ .asked .result .named && eqb (c₁₅ .asked .result .c) (c₂₃ .loop .i)) (c₆ .fits2 .result)
           (c₅ .if4 .taken) .1)) .1,
       c₁₃ .noted .ensures .0,
       c₂₃ .loop .inv .2,
@@ -1256,7 +1256,7 @@ laid-loop-again t c =
     c₂₅ .before in let c₃₆ = c₂₆ .before .before .before .before .before .before .before .before .before .before in let a = c₃₆ .args in let l =
     c₂₆ .loop in let matcher = matcherOf (now (a .rule)) (now (a .file)) (now (a .marks)) (now (a .words)) (now (a .facts)) (a .cx) in let pair =
     and-both (c₁₈ .asked .result .named && eqb (c₁₈ .asked .result .c) (l .i)) (c₉ .fits2 .result) (c₈ .if4 .taken) .0 in let fits =
-    c₉ .fits2 .ensures (and-both (c₁₈ .asked .result .named && eqb (c₁₈ .asked .result .c) (l .i)) (c₉ .fits2 .result) (c₈ .if4 .taken) .1) in (
+    c₉ .fits2 .ensures .0 (and-both (c₁₈ .asked .result .named && eqb (c₁₈ .asked .result .c) (l .i)) (c₉ .fits2 .result) (c₈ .if4 .taken) .1) in (
       omega (arith, c₁ .width .ensures .0 .1, c₂₂ .behind3 .ensures .1),
       omega (arith, c .width2 .ensures .0 .1, c₂₄ .behind2 .ensures .1),
       lay.pair-length matcher (a .pe) (now (a .p)) (l .at) (a .ce) (now (a .c)) (l .i) (l .t) (l .out) (now (c₂₅ .behind .result)) (now

@@ -1,10 +1,10 @@
--- `matching::beside::goes_on` meets its contract.
+-- `ordered_fields::goes_on` meets its contract.
 -- Assumes nothing.
 use denote.Ref.{now}
 use Rattle.syntax.proofs.TreeLaws.{elems-end}
 use borrow.Author.Needs.{needs}
-use Rattle.matching.proofs.beside.goes_on.Statement.{statement}
-use Rattle.matching.proofs.beside.goes_on.Tie as tie
+use Rattle.ordered_fields.proofs.goes_on.Statement.{statement}
+use Rattle.ordered_fields.proofs.goes_on.Tie as tie
 
 returns : tie.Need-returns
 returns c =

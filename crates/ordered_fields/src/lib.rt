@@ -11,8 +11,7 @@ ghost use Rattle.syntax.specs.Trees.{elems};
 ghost use Rattle.matcher.specs.declared.marks.Context.{Context};
 ghost use Rattle.matcher.specs.Matcher.{matcherOf, hasPlaceholderName};
 ghost use Rattle.matcher.specs.FileFacts.{FileOf};
-ghost use Rattle.matching.specs.StartingOver.{startsOver, next, past, isSame};
-ghost use Rattle.matching.specs.Matching.{AsksFor};
+ghost use Rattle.ordered_fields.specs.Order.{startsOver, next, past, isSame, AsksFor};
 
 // Whether one of the pattern's siblings has a placeholder as its name.
 pub fn starts_over(part: &[u32], marks: &[u32], pe: usize) -> bool

@@ -1,4 +1,4 @@
--- `matching::beside::asked` meets its contract.
+-- `ordered_fields::asked` meets its contract.
 -- Assumes nothing.
 use mathlib.Core.Path.{sym, _∙_}
 use mathlib.Core.Bool.{true, false, false≢true}
@@ -8,9 +8,9 @@ use denote.Ref.{now}
 use lib.ListN.{drop}
 use Rattle.syntax.specs.Trees.{elems}
 use borrow.Author.Needs.{needs}
-use Rattle.matching.proofs.BesideLaws.{asks-by}
-use Rattle.matching.proofs.beside.asked.Statement.{statement}
-use Rattle.matching.proofs.beside.asked.Tie as tie
+use Rattle.ordered_fields.proofs.OrderLaws.{asks-by}
+use Rattle.ordered_fields.proofs.asked.Statement.{statement}
+use Rattle.ordered_fields.proofs.asked.Tie as tie
 
 returns : tie.Need-returns
 returns c =

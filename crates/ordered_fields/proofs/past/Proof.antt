@@ -1,11 +1,11 @@
--- `matching::beside::past` meets its contract.
+-- `ordered_fields::past` meets its contract.
 -- Assumes nothing.
 use native.Mathlib.Omega.{arith}
 use denote.Ref.{now}
 use borrow.Author.Needs.{needs}
-use Rattle.matching.proofs.BesideLaws.{past-next}
-use Rattle.matching.proofs.beside.past.Statement.{statement}
-use Rattle.matching.proofs.beside.past.Tie as tie
+use Rattle.ordered_fields.proofs.OrderLaws.{past-next}
+use Rattle.ordered_fields.proofs.past.Statement.{statement}
+use Rattle.ordered_fields.proofs.past.Tie as tie
 
 returns : tie.Need-returns
 returns c =

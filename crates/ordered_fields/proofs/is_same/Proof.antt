@@ -1,11 +1,11 @@
--- `matching::beside::is_same` meets its contract.
+-- `ordered_fields::is_same` meets its contract.
 -- Assumes nothing.
 use Prim.Native.Nat.{_+_}
 use denote.Ref.{now}
 use borrow.Author.Needs.{needs}
-use Rattle.matching.proofs.BesideLaws.{next-is, same-is}
-use Rattle.matching.proofs.beside.is_same.Statement.{statement}
-use Rattle.matching.proofs.beside.is_same.Tie as tie
+use Rattle.ordered_fields.proofs.OrderLaws.{next-is, same-is}
+use Rattle.ordered_fields.proofs.is_same.Statement.{statement}
+use Rattle.ordered_fields.proofs.is_same.Tie as tie
 
 returns : tie.Need-returns
 returns c =

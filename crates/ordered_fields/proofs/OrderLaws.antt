@@ -20,7 +20,7 @@ use Rattle.matcher.specs.Matcher.{Matcher, hasPlaceholderName}
 use Rattle.matcher.proofs.TokenLaws.{pass-more}
 use Rattle.record_fields.specs.Fields.{patternName}
 use Rattle.record_fields.proofs.FieldLaws.{passed}
-use Rattle.matching.specs.StartingOver.{startsOver, next, isSame}
+use Rattle.ordered_fields.specs.Order.{startsOver, next, isSame}
 
 -- ---- one of the pattern's siblings has a placeholder as its name: the first one, one further on, none where a part is at its end
 module _ (x : Matcher) where

@@ -1,4 +1,4 @@
--- `matching::beside::starts_over` meets its contract: what is left has the answer of the whole.
+-- `ordered_fields::starts_over` meets its contract: what is left has the answer of the whole.
 -- Assumes nothing.
 use mathlib.Core.Path.{_≡_, refl, sym, _∙_}
 use mathlib.Core.List.{List}
@@ -9,10 +9,10 @@ use lib.ListN.{length}
 use Rattle.syntax.specs.Trees.{elems}
 use Rattle.matcher.specs.declared.marks.Context.{Context}
 use Rattle.matcher.specs.Matcher.{matcherOf}
-use Rattle.matching.specs.StartingOver.{startsOver}
-use Rattle.matching.proofs.BesideLaws.{over-here, over-next, over-end}
-use Rattle.matching.proofs.beside.starts_over.Statement.{statement}
-use Rattle.matching.proofs.beside.starts_over.Tie as tie
+use Rattle.ordered_fields.specs.Order.{startsOver}
+use Rattle.ordered_fields.proofs.OrderLaws.{over-here, over-next, over-end}
+use Rattle.ordered_fields.proofs.starts_over.Statement.{statement}
+use Rattle.ordered_fields.proofs.starts_over.Tie as tie
 
 abbrev Inv-loop : tie.InvT-loop
 Inv-loop part marks pe q₀ at₀ q at =
