@@ -2,3 +2,4 @@
 pub mod AttemptLaws
 pub mod MergeLaws
 pub mod AgainLaws
+pub mod PartLaws

@@ -1,14 +1,14 @@
 -- Going along the siblings of pattern and code by order: tokens are passed, and what is left by name, or owed of comments, stays as it is.
 -- Assumes nothing.
 use mathlib.Core.Path.{_≡_, refl, sym, ap, _∙_}
-use mathlib.Core.Bool.{Bool, true, false, cond, not, _&&_, _||_, true≢false, false≢true}
-use mathlib.Core.List.{List, [], _∷_, _++_}
+use mathlib.Core.Bool.{Bool, true, false, cond, _&&_, true≢false, false≢true}
+use mathlib.Core.List.{List, [], _++_}
 use Prim.Native.Nat.{ℕ}
-use Rattle.words.proofs.TestLaws.{and-both}
+use Rattle.words.proofs.TestLaws.{never, and-both}
 use Rattle.syntax.specs.Trees.{Elems, none, token, node}
 use Rattle.syntax.specs.Accessors.{rest, some, between}
 use Rattle.siblings.specs.Siblings.{isNode, isToken, isTrivia, skipTokens, skipTrivia}
-use Rattle.siblings.proofs.SiblingLaws.{skip-here, skip-next, trivia-is-token, token-node-not}
+use Rattle.siblings.proofs.SiblingLaws.{skip-here, skip-next, trivia-is-token}
 use Rattle.captures.specs.Attempts.{Attempt, matched, andThen, notesOf}
 use Rattle.captures.proofs.AttemptLaws.{then-nothing}
 use Rattle.matcher.specs.Matcher.{Matcher, hasPlaceholderName}
@@ -52,6 +52,9 @@ next-after sheet code text p c h = by (isExtra sheet p c) refl
         let same : isSameToken code text (pastSeparator sheet p c) c ≡ true = rw (e) at h in
         rw (e) (next-past (pastSeparator sheet p c) (same-token-is code text (pastSeparator sheet p c) c same) ∙ past-separator sheet p c (isToken p
         && skips sheet (kindOf p) (kindOf c)) refl)
+
+pub no-trivia : (c : Elems) → isToken c ≡ false → isTrivia c ≡ false
+no-trivia c h = never (isTrivia c) (λ e. true≢false (sym (trivia-is-token c e) ∙ h))
 
 -- ---- comments that are owed
 
@@ -118,12 +121,6 @@ module _ (f : Elems → Elems → Attempt) (x : Matcher) (ps cs : Elems) where
       by true h g = rw (h) (g ∙ sym (then-nothing (byName false f x ps cs r none)))
       by false h g = refl
   by-next (node i k s e ds r) = refl
-
-  pub by-stops : (y : Elems) → hasPlaceholderName x y ≡ true → byName false f x ps cs y none ≡ matched []
-  unfolding byName
-  by-stops none h = refl
-  by-stops (token i k s e r) h = absurd (false≢true h)
-  by-stops (node i k s e ds r) h = rw (h)
 
   pub by-node : (y : Elems) → isNode y ≡ true → hasPlaceholderName x y ≡ false
       → byName false f x ps cs y none ≡ andThen (fieldByName false f x ps cs y none) (byName false f x ps cs (rest y) none)

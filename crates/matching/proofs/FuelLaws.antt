@@ -2,7 +2,7 @@
 -- Assumes nothing.
 use mathlib.Core.Path.{_≡_, refl, sym, ap, _∙_}
 use mathlib.Core.Bool.{Bool, true, false, _&&_, _||_}
-use mathlib.Core.List.{List, []}
+use mathlib.Core.List.{List}
 use Prim.Native.Nat.{ℕ, zero, suc, _≤_}
 use native.Mathlib.Omega.{arith}
 use lib.Dec.{eqb, leb, ltb}
@@ -10,7 +10,8 @@ use borrow.Author.Tests.{leb-true, leb-false}
 use Rattle.syntax.specs.Trees.{Elems, none, token, node}
 use Rattle.syntax.specs.Accessors.{children, numberOf, some, nodeIn, findExpression}
 use Rattle.siblings.specs.Siblings.{kindOf, isToken, isTrivia}
-use Rattle.captures.specs.Attempts.{Event, Attempt, failed, matched}
+use Rattle.captures.specs.Attempts.{Event, Attempt, matched}
+use Rattle.captures.proofs.PartLaws.{eventsOf}
 use Rattle.matcher.specs.Matcher.{Matcher, slotOf, isResolved, isCall, hasPlaceholderName}
 use Rattle.record_fields.specs.Fields.{patternName}
 use Rattle.token_trees.proofs.FuelLaws.{Below, below-refl, below-failed, below-then, below-cond, below-more, step-tree}
@@ -99,18 +100,11 @@ mutual
 pub more-node : (m n : ℕ) → m ≤ n → (x : Matcher) (p c : Elems) (es : List Event) → matchNode m x p c ≡ matched es → matchNode n x p c ≡ matched es
 more-node m n h x p c = below-more (λ k. matchNode k x p c) (λ k. step-node k x p c) m n h
 
-pub more-opt : (m n : ℕ) → m ≤ n → (x : Matcher) (p c : Elems) (es : List Event) → matchOpt m x p c ≡ matched es → matchOpt n x p c ≡ matched es
-more-opt m n h x p c = below-more (λ k. matchOpt k x p c) (λ k. step-opt k x p c) m n h
-
 pub more-sequences : (m n : ℕ) → m ≤ n → (x : Matcher) (ps cs : Elems) (es : List Event) → matchSequences m x ps cs ≡ matched es → matchSequences n x
     ps cs ≡ matched es
 more-sequences m n h x ps cs = below-more (λ k. matchSequences k x ps cs) (λ k. step-sequences k x ps cs) m n h
 
 -- ---- so two bounds within which an attempt matches give the same events
-abbrev eventsOf : Attempt → List Event
-eventsOf failed = []
-eventsOf (matched es) = es
-
 pub one-outcome : (f : ℕ → Attempt) → ((m n : ℕ) → m ≤ n → Below (f m) (f n)) → (m n : ℕ) (es fs : List Event) → f m ≡ matched es → f n ≡ matched fs
     → es ≡ fs
 one-outcome f more m n es fs e g = by (leb m n) refl

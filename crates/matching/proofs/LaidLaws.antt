@@ -2,20 +2,19 @@
 -- comments are laid again from where they stand.
 -- Assumes nothing.
 use mathlib.Core.Path.{_≡_, refl, sym, ap, _∙_, subst}
-use mathlib.Core.Bool.{Bool, true, false, cond, not, _&&_, true≢false, false≢true}
+use mathlib.Core.Bool.{Bool, true, false, cond, not, _&&_, true≢false}
 use mathlib.Core.List.{List, []}
 use Prim.Native.Nat.{ℕ, suc, _+_, _-_, _*_, _≤_, _<_}
 use native.Mathlib.Omega.{arith}
 use lib.Dec.{eqb, leb}
 use lib.ListN.{length, take, drop, length-drop}
-use borrow.Author.Tests.{leb-true, eqb-true}
+use borrow.Author.Tests.{leb-true, eqb-true, not-true}
 use Rattle.words.specs.Buffer.{laid}
 use Rattle.words.proofs.TestLaws.{and-both}
-use Rattle.syntax.specs.Trees.{Elems, none, elems}
+use Rattle.syntax.specs.Trees.{Elems, elems}
 use Rattle.syntax.specs.Accessors.{rest, some}
-use Rattle.siblings.specs.Siblings.{isNode, isToken, isTrivia, skipTrivia}
-use Rattle.siblings.proofs.SiblingLaws.{trivia-is-token}
-use Rattle.captures.specs.Attempts.{Event, Attempt, failed, matched, comments}
+use Rattle.siblings.specs.Siblings.{isNode, isToken, skipTrivia}
+use Rattle.captures.specs.Attempts.{Event, Attempt, matched, comments}
 use Rattle.captures.specs.Effects.{movedTo, recorded, laidBy, noMatch, Gives}
 use Rattle.captures.specs.Turns.{TurnOf}
 use Rattle.captures.specs.declared.State.{State}
@@ -28,11 +27,12 @@ use Rattle.matcher.proofs.TokenLaws.{pass-more}
 use Rattle.record_fields.specs.Fields.{patternName}
 use Rattle.record_fields.specs.declared.Field.{Field}
 use Rattle.ordered_fields.specs.Order.{next, partner, AsksFor}
-use Rattle.matching.specs.Matching.{matchNode, matchSequences, matchOpt, NodeGives, SequencesGive, NotedGives, Went, Stands, Stood}
+use Rattle.matching.specs.Matching.{matchNode, matchSequences, matchOpt, NodeGives, SequencesGive, NotedGives, Went, Stands}
 use Rattle.matching.proofs.StepLaws.{by-suc, same-gives, sequence-node, opt-both}
 use Rattle.matching.proofs.PlaceLaws.{some-long, node-long}
 use Rattle.matching.proofs.GiveLaws.{both-match}
 use Rattle.matching.proofs.FuelLaws.{more-node, one-outcome}
+use Rattle.matching.proofs.AlongLaws.{no-trivia}
 use Rattle.matching.proofs.TurnLaws.{Acted, acted}
 use Rattle.matching.proofs.MeasuredLaws.{each-of-four, at-q}
 use Rattle.matching.proofs.StandLaws.{parts, named-matches, first-stands, first-fits, stood-turn}
@@ -77,10 +77,6 @@ module _ (x : Matcher) (pe : ℕ) (ps : List ℕ) (at : ℕ) (ce : ℕ) (cs : Li
 
     fits-so-far : s .noted ≤ length out
     fits-so-far = leb-true (s .noted) (length out) (and-both on (leb (s .noted) (length out)) (four .0) .1)
-
-    not-true : (b : Bool) → not b ≡ true → b ≡ false
-    not-true true e = absurd (false≢true e)
-    not-true false e = refl
 
     is-before : before ≡ true
     is-before = and-both before (not (hasPlaceholderName x (skipTrivia Pat))) (sym goes-by ∙ is-on) .0
@@ -316,13 +312,6 @@ module _ (x : Matcher) (pe : ℕ) (ps : List ℕ) (at : ℕ) (ce : ℕ) (cs : Li
         rest-q = pass-more pe (at + skip) w ps ∙ ap (λ (v : List ℕ). elems (pe + (at + skip) + w) (drop (w * 3) v)) (sym q-is) ∙ passes (pe + (at +
             skip)) ∙ ap rest q-at
 
-    not-trivia : isTrivia Cod ≡ false
-    not-trivia = by (isTrivia Cod) refl
-      where
-        by : (b : Bool) → isTrivia Cod ≡ b → b ≡ false
-        by true e = absurd (true≢false (sym (trivia-is-token Cod e) ∙ laid-here .0))
-        by false e = refl
-
     pub laid-goes : (w n : ℕ) → ((j : ℕ) → elems (j + w) (drop (w * 3) q) ≡ rest (elems j q)) → ((j : ℕ) → elems (j + n) (drop (n * 3) d) ≡ rest
         (elems j d)) → (1 ≤ n) × (n * 3 ≤ length d)
         → (a : Answer) (end : List ℕ) → SequencesGive x (pe + (at + skip + w)) (drop ((at + skip + w) * 3) ps) (ce + (i + n)) (drop ((i + n) * 3) cs)
@@ -330,7 +319,7 @@ module _ (x : Matcher) (pe : ℕ) (ps : List ℕ) (at : ℕ) (ce : ℕ) (cs : Li
         → SequencesGive x (pe + at) (drop (at * 3) ps) (ce + i) (drop (i * 3) cs) s out a end
     laid-goes w n pass-q pass-d within a end l =
         by-suc (λ b. Gives (matchSequences b x Pat Cod) s out a end) {k = 5 * (length (drop (at * 3) ps) + length (drop (i * 3) cs)) + 4} (λ b o.
-        same-gives (sequence-node x Pat Cod b some-d not-trivia (laid-here .0) (laid-here .1))
+        same-gives (sequence-node x Pat Cod b some-d (no-trivia Cod (laid-here .0)) (laid-here .0) (laid-here .1))
         (both-match _ s out (record { ok = true; state = t }) out₂ a _ t end
         (rw (q-at, cod-is) at (laid-node b (omega (
           arith,

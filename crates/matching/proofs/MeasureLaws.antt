@@ -1,22 +1,19 @@
 -- By order, where no comment is laid: the comments of pairs left out before are counted once more, where they are met or at the end alike.
 -- Assumes nothing.
 use mathlib.Core.Path.{_≡_, refl, sym, ap, _∙_, subst}
-use mathlib.Core.Bool.{Bool, true, false, cond, not, _&&_, true≢false, false≢true}
-use mathlib.Core.List.{List, [], _∷_, _++_, append-assoc, append-nil}
-use Prim.Native.Nat.{ℕ, suc, _+_, _*_, _≤_, _<_}
+use mathlib.Core.Bool.{Bool, true, false, not, _&&_, false≢true}
+use mathlib.Core.List.{List, _++_}
+use Prim.Native.Nat.{ℕ, suc, _+_, _≤_, _<_}
 use native.Mathlib.Omega.{arith}
-use lib.Dec.{eqb}
-use lib.ListN.{length, drop, length-drop}
-use borrow.Author.Tests.{eq-eqb}
-use Rattle.words.proofs.TestLaws.{and-both, and-of}
-use Rattle.syntax.specs.Trees.{Elems, none, elems}
-use Rattle.syntax.specs.Accessors.{rest, some, numberOf}
-use Rattle.siblings.specs.Siblings.{isNode, isToken, skipTokens, skipTrivia}
-use Rattle.captures.specs.Attempts.{Event, Attempt, failed, matched, andThen, given, notes, notesOf}
+use lib.ListN.{length}
+use Rattle.syntax.specs.Trees.{Elems}
+use Rattle.syntax.specs.Accessors.{rest}
+use Rattle.siblings.specs.Siblings.{isNode, isToken, skipTrivia}
+use Rattle.captures.specs.Attempts.{Event, Attempt, failed, matched, andThen, notes}
 use Rattle.captures.specs.Effects.{recorded, laidBy, noMatch, Gives, Leads}
 use Rattle.captures.specs.declared.State.{State}
 use Rattle.captures.specs.declared.Answer.{Answer}
-use Rattle.captures.proofs.AttemptLaws.{laid-append, laid-length, recorded-append, gives-failed, fails-then}
+use Rattle.captures.proofs.AttemptLaws.{laid-append, laid-length, recorded-append, fails-then}
 use Rattle.captures.proofs.AgainLaws.{notes-later, laid-silent, silent-stays}
 use Rattle.matcher.specs.Matcher.{Matcher, hasPlaceholderName}
 use Rattle.token_trees.proofs.FuelLaws.{Below}
@@ -24,7 +21,7 @@ use Rattle.ordered_fields.specs.Order.{next, partner, isBeside}
 use Rattle.matching.specs.StartingOver.{again, isSilent}
 use Rattle.matching.specs.Matching.{matchOpt, owed}
 use Rattle.matching.proofs.AlongLaws.{next-past, next-here, next-trivia, again-next, again-cursor, again-stops, again-node}
-use Rattle.matching.proofs.TurnLaws.{Acted, acted, failed-of}
+use Rattle.matching.proofs.TurnLaws.{Acted, acted}
 
 -- ---- attempts and what is behind them
 

@@ -7,14 +7,12 @@ use Prim.Native.Nat.{ℕ, suc, _+_, _*_, _≤_, _<_}
 use native.Mathlib.Omega.{arith}
 use lib.Dec.{eqb, leb}
 use lib.ListN.{length, drop, length-drop}
-use lib.Seq.{drop-drop}
-use borrow.Author.Tests.{eqb-true, eq-eqb, le-leb}
+use borrow.Author.Tests.{eqb-true, eq-eqb, le-leb, not-true}
 use Rattle.words.proofs.TestLaws.{and-both}
 use Rattle.syntax.specs.Trees.{Elems, none, token, node, elems}
 use Rattle.syntax.specs.Accessors.{rest, some}
 use Rattle.siblings.specs.Siblings.{isNode, isToken, isTrivia, skipTrivia}
-use Rattle.siblings.proofs.SiblingLaws.{trivia-is-token}
-use Rattle.captures.specs.Attempts.{Event, Attempt, failed, matched, andThen, given, notes}
+use Rattle.captures.specs.Attempts.{Event, Attempt, matched, andThen, given, notes}
 use Rattle.captures.specs.Effects.{recorded, noMatch, Gives}
 use Rattle.captures.specs.Turns.{TurnOf}
 use Rattle.captures.specs.declared.State.{State}
@@ -32,10 +30,10 @@ use Rattle.matching.specs.Matching.{matchNode, matchSequences, matchOpt,
 use Rattle.matching.proofs.StepLaws.{by-suc, same-gives, sequence-end, sequence-node, opt-both}
 use Rattle.matching.proofs.PlaceLaws.{some-long, some-short, node-long}
 use Rattle.matching.proofs.GiveLaws.{gives-no, gives-same, first-fails}
-use Rattle.matching.proofs.FuelLaws.{more-node, more-sequences, one-outcome}
+use Rattle.matching.proofs.FuelLaws.{more-node, more-sequences}
 use Rattle.ordered_fields.proofs.OrderLaws.{same-is}
-use Rattle.matching.proofs.AlongLaws.{next-here}
-use Rattle.matching.proofs.TurnLaws.{Acted, acted, failed-of}
+use Rattle.matching.proofs.AlongLaws.{next-here, no-trivia}
+use Rattle.matching.proofs.TurnLaws.{Acted, acted}
 use Rattle.matching.proofs.MeasureLaws.{none-after, twice, after-turn, owed-turn, owed-pair, to-node}
 
 pub all-four : (a b k d : Bool) → a ≡ true → b ≡ true → k ≡ false → d ≡ true → (a && b && not k && d) ≡ true
@@ -185,10 +183,6 @@ module _ (x : Matcher) (pe : ℕ) (ps : List ℕ) (at : ℕ) (ce : ℕ) (cs : Li
 
         open-before : (before ≡ true) × (hasPlaceholderName x (skipTrivia Pat) ≡ false)
         open-before = let g = and-both before _ (sym goes ∙ four .0) in (g .0, ap (hasPlaceholderName x) (sym at-q) ∙ not-true _ (g .1))
-          where
-            not-true : (b : Bool) → not b ≡ true → b ≡ false
-            not-true true e = absurd (false≢true e)
-            not-true false e = refl
 
         pub pair-node : isNode (skipTrivia Pat) ≡ true
         pair-node = ap isNode (sym asked-is) ∙ four .1
@@ -199,12 +193,8 @@ module _ (x : Matcher) (pe : ℕ) (ps : List ℕ) (at : ℕ) (ce : ℕ) (cs : Li
         pub pair-long : 3 ≤ length q
         pair-long = node-long (pe + (at + skip)) q (ap isNode at-q ∙ pair-node)
 
-        pub pair-trivia : isTrivia Cod ≡ false
-        pair-trivia = by (isTrivia Cod) refl
-          where
-            by : (b : Bool) → isTrivia Cod ≡ b → b ≡ false
-            by true e = absurd (true≢false (sym (trivia-is-token Cod e) ∙ pair-token))
-            by false e = refl
+        pair-trivia : isTrivia Cod ≡ false
+        pair-trivia = no-trivia Cod pair-token
 
         pub pair-partner : partner x (elems ce cs) (skipTrivia Pat) ≡ Cod
         pair-partner =

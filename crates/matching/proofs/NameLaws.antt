@@ -9,14 +9,14 @@ use native.Mathlib.Omega.{arith}
 use lib.Dec.{leb, ltb}
 use lib.ListN.{length, take, drop, length-drop}
 use lib.Seq.{take-at, drop-at, length-take-le}
-use borrow.Author.Tests.{leb-true, ltb-false}
+use borrow.Author.Tests.{leb-true, ltb-false, not-true, not-false}
 use Rattle.words.proofs.TestLaws.{and-both}
 use Rattle.words.specs.Buffer.{laid}
 use Rattle.syntax.specs.Trees.{Elems, none, token, node, elems}
 use Rattle.syntax.specs.Accessors.{children, rest, some}
 use Rattle.syntax.proofs.AccessorLaws.{some-is}
-use Rattle.captures.specs.Attempts.{Event, Attempt, failed, matched, andThen, given, comments}
-use Rattle.captures.specs.Effects.{recorded, laidBy, noMatch, Gives}
+use Rattle.captures.specs.Attempts.{Attempt, matched, andThen, given, comments}
+use Rattle.captures.specs.Effects.{noMatch, Gives}
 use Rattle.captures.specs.declared.State.{State}
 use Rattle.captures.specs.declared.Answer.{Answer}
 use Rattle.captures.proofs.AttemptLaws.{given-true, given-false, gives-length, notedAfter, recorded-noted, noted-exact, laid-fits}
@@ -35,14 +35,6 @@ use Rattle.matching.proofs.FuelLaws.{more-node}
 use Rattle.matching.proofs.AlongLaws.{by-any}
 use Rattle.matching.proofs.OverLaws.{fields-over, fields-plain, start-over-words}
 use Rattle.matching.proofs.TurnLaws.{Acted, acted}
-
-pub not-holds : (b : Bool) → not b ≡ true → b ≡ false
-not-holds true h = absurd (false≢true h)
-not-holds false h = refl
-
-pub not-fails : (b : Bool) → not b ≡ false → b ≡ true
-not-fails true h = refl
-not-fails false h = absurd (true≢false h)
 
 -- ---- one sibling
 
@@ -91,7 +83,7 @@ unfolding byName
 by-ends leaves f x ps cs none d h = refl
 by-ends leaves f x ps cs (token i k s e r) d h = absurd (true≢false h)
 by-ends leaves f x ps cs (node i k s e ds r) d h = ap (λ (b : Bool). cond b (matched []) (andThen (fieldByName leaves f x ps cs (node i k s e ds r)
-    d) (byName leaves f x ps cs r (past (node i k s e ds r) d)))) (not-fails (hasPlaceholderName x (node i k s e ds r)) h)
+    d) (byName leaves f x ps cs r (past (node i k s e ds r) d)))) (not-false (hasPlaceholderName x (node i k s e ds r)) h)
 
 by-more : (leaves : Bool) (f : Elems → Elems → Attempt) (x : Matcher) (ps cs q d : Elems) → (some q && not (hasPlaceholderName x q)) ≡ true
     → byName leaves f x ps cs q d ≡ andThen (fieldByName leaves f x ps cs q d) (byName leaves f x ps cs (rest q) (past q d))
@@ -99,7 +91,7 @@ unfolding byName
 by-more leaves f x ps cs none d h = absurd (false≢true h)
 by-more leaves f x ps cs (token i k s e r) d h = refl
 by-more leaves f x ps cs (node i k s e ds r) d h = ap (λ (b : Bool). cond b (matched []) (andThen (fieldByName leaves f x ps cs (node i k s e ds r)
-    d) (byName leaves f x ps cs r (past (node i k s e ds r) d)))) (not-holds (hasPlaceholderName x (node i k s e ds r)) h)
+    d) (byName leaves f x ps cs r (past (node i k s e ds r) d)))) (not-true (hasPlaceholderName x (node i k s e ds r)) h)
 
 module _ (x : Matcher) (pe : ℕ) (ps : List ℕ) (at : ℕ) (ce : ℕ) (cs : List ℕ) (by : ℕ) (leaves : Bool) (s : State) (out : List ℕ) (q : List ℕ) (q-is
     : q ≡ drop (at * 3) ps)

@@ -23,6 +23,7 @@ use Rattle.captures.specs.Effects.{recorded, Gives}
 use Rattle.captures.specs.declared.State.{State}
 use Rattle.captures.specs.declared.Answer.{Answer}
 use Rattle.captures.proofs.AttemptLaws.{then-assoc, then-nothing, recorded-append}
+use Rattle.captures.proofs.PartLaws.{fails-not, parted}
 use Rattle.captures.proofs.AgainLaws.{notes-later, binds, Covers, binds-append, left-out, laid-silent}
 use Rattle.matcher.specs.Matcher.{Matcher, hasPlaceholderName}
 use Rattle.matcher.specs.Tokens.{skips, isExtra, pastSeparator, isSameToken, matchesToken, afterToken, note}
@@ -235,30 +236,6 @@ module _ (P : Elems → Elems → Type 0) where
 
 -- ---- attempts in turn that match
 
-abbrev isMatched : Attempt → Bool
-isMatched failed = false
-isMatched (matched es) = true
-
-abbrev eventsOf : Attempt → List Event
-eventsOf failed = []
-eventsOf (matched es) = es
-
-fails-not : {A : Type 0} (es : List Event) → failed ≡ matched es → A
-fails-not es h = absurd (false≢true (ap isMatched h))
-
-record Both (a b : Attempt) (os : List Event) : Type 0 where
-  events : List Event
-  later : List Event
-  first : a ≡ matched events
-  second : b ≡ matched later
-  are : os ≡ events ++ later
-
-both : (a b : Attempt) (os : List Event) → andThen a b ≡ matched os → Both a b os
-unfolding andThen
-both failed b os h = fails-not os h
-both (matched es) failed os h = fails-not os h
-both (matched es) (matched fs) os h = record { events = es; later = fs; first = refl; second = refl; are = sym (ap eventsOf h) }
-
 covers-first : (es fs : List Event) → Covers (es ++ fs) es
 covers-first es fs slot h = binds-append slot es fs ∙ rw (h)
 
@@ -294,9 +271,9 @@ module _ (x : Matcher) (P : Elems → Elems → Type 0) where
     module _ (e : some cs ≡ true) where
       along-trivia : isTrivia cs ≡ true → AllBeside P ps cs
       along-trivia t =
-          let b = both (note (x .text) cs) (matchSequences n x (skipTrivia ps) (rest cs)) os (sym (sequence-trivia x ps cs n e t) ∙ h) in
+          let b = parted (note (x .text) cs) (matchSequences n x (skipTrivia ps) (rest cs)) os (sym (sequence-trivia x ps cs n e t) ∙ h) in
           beside-trivia P ps cs (beside-rest P (skipTrivia ps) cs (trivia-is-token cs t)
-          (left (skipTrivia ps) (rest cs) (b .later) (b .second) (into-later n (b .events) (b .later) os (b .are) f)))
+          (left (skipTrivia ps) (rest cs) (b .second) (b .second-is) (into-later n (b .first) (b .second) os (b .whole) f)))
 
       module _ (t : isTrivia cs ≡ false) where
         along-token : isToken cs ≡ true → (b : Bool) → matchesToken (x .sheet) (x .code) (x .text) (skipTrivia ps) cs ≡ b → AllBeside P ps cs
@@ -309,12 +286,12 @@ module _ (x : Matcher) (P : Elems → Elems → Type 0) where
         along-node : isToken cs ≡ false → (b : Bool) → isNode (skipTrivia ps) ≡ b → AllBeside P ps cs
         along-node k true m =
             let p = skipTrivia ps in
-            let b = both (matchNode n x p cs) (matchSequences n x (rest p) (rest cs)) os (sym (sequence-node x ps cs n e t k m) ∙ h) in
+            let b = parted (matchNode n x p cs) (matchSequences n x (rest p) (rest cs)) os (sym (sequence-node x ps cs n e t k m) ∙ h) in
             let c : next cs ≡ cs = skip-here 1 1023 cs k in
-            let v : Covers os (b .events) = subst (λ (us : List Event). Covers us (b .events)) (sym (b .are)) (covers-first (b .events) (b .later)) in
+            let v : Covers os (b .first) = subst (λ (us : List Event). Covers us (b .first)) (sym (b .whole)) (covers-first (b .first) (b .second)) in
             beside-trivia P ps cs (beside-node P p cs m
-            (rw (c) (f n p cs (b .events) (omega arith) (some-node p m) e (b .first) v))
-            (rw (c) (left (rest p) (rest cs) (b .later) (b .second) (into-later n (b .events) (b .later) os (b .are) f))))
+            (rw (c) (f n p cs (b .first) (omega arith) (some-node p m) e (b .first-is) v))
+            (rw (c) (left (rest p) (rest cs) (b .second) (b .second-is) (into-later n (b .first) (b .second) os (b .whole) f))))
         along-node k false m = fails-not os (sym (sequence-other x ps cs n e t k m) ∙ h)
 
         along-plain : (b : Bool) → isToken cs ≡ b → AllBeside P ps cs

@@ -1,7 +1,7 @@
 -- What the rule says of the pattern's element that words begin with, by the number that stands beside them.
 -- Assumes nothing.
 use mathlib.Core.Path.{_≡_, refl, sym, ap, _∙_}
-use mathlib.Core.Bool.{Bool, true, false, _&&_, _||_, false≢true}
+use mathlib.Core.Bool.{Bool, true, false, _&&_, _||_, and-false, false≢true}
 use mathlib.Core.List.{List}
 use Prim.Native.Nat.{ℕ, _+_, _*_, _≤_, _<_}
 use lib.Dec.{ltb}
@@ -27,10 +27,6 @@ some-short i l h = some-is i l ∙ lt-leb 3 (length l) h
 pub one-short : (i j : ℕ) (l k : List ℕ) → (ltb (length l) 3 || ltb (length k) 3) ≡ true → (some (elems i l) && some (elems j k)) ≡ false
 one-short i j l k h = by (ltb (length l) 3) refl
   where
-    and-false : (b : Bool) → (b && false) ≡ false
-    and-false true = refl
-    and-false false = refl
-
     by : (b : Bool) → ltb (length l) 3 ≡ b → (some (elems i l) && some (elems j k)) ≡ false
     by true e = rw (some-short i l (ltb-true _ _ e))
     by false e = rw (some-short j k (ltb-true _ _ (rw (e) at h))) (and-false (some (elems i l)))

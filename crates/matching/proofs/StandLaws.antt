@@ -2,7 +2,7 @@
 -- that were passed.
 -- Assumes nothing.
 use mathlib.Core.Path.{_≡_, refl, sym, ap, _∙_, subst}
-use mathlib.Core.Bool.{Bool, true, false, cond, not, _&&_, true≢false, false≢true}
+use mathlib.Core.Bool.{Bool, true, false, cond, not, _&&_, and-false}
 use mathlib.Core.List.{List, [], _∷_, _++_}
 use Prim.Native.Nat.{ℕ, _+_, _≤_}
 use native.Mathlib.Nat.{add-zero}
@@ -10,21 +10,24 @@ use native.Mathlib.Omega.{arith}
 use lib.Dec.{leb}
 use lib.ListN.{length, take, drop, length-append}
 use lib.Seq.{take-at, drop-at, take-take, take-add, drop-drop, take-append-le, length-take-le}
-use borrow.Author.Tests.{leb-true, leb-false, le-leb}
-use Rattle.words.specs.Buffer.{laid, laidIfRoom}
-use Rattle.syntax.specs.Trees.{Elems, none, elems}
+use borrow.Author.Tests.{leb-true, le-leb}
+use Rattle.words.specs.Buffer.{laid}
+use Rattle.words.proofs.TestLaws.{and-of}
+use Rattle.syntax.specs.Trees.{Elems, none}
 use Rattle.syntax.specs.Accessors.{rest, some}
 use Rattle.siblings.specs.Siblings.{isNode, isToken, skipTrivia}
 use Rattle.captures.specs.declared.State.{State}
-use Rattle.captures.specs.Attempts.{Event, Bound, Noted, Attempt, failed, matched, andThen, given, comments}
+use Rattle.captures.specs.Attempts.{Event, Bound, Noted, Attempt, matched, andThen, given, comments}
 use Rattle.captures.specs.Effects.{placeBehind, recordedOne, recorded, laidOne, laidBy}
 use Rattle.captures.proofs.AttemptLaws.{laid-one-length, laid-length, comments-append, notedAfter, recorded-noted, noted-exact, noted-fits}
+use Rattle.captures.proofs.PartLaws.{eventsOf, Parted, parted, given-holds}
 use Rattle.matcher.specs.Matcher.{Matcher, hasPlaceholderName}
 use Rattle.record_fields.specs.Fields.{patternName, isFree}
 use Rattle.ordered_fields.specs.Order.{next, partner}
 use Rattle.matching.specs.StartingOver.{fieldByName, byName}
 use Rattle.matching.specs.Matching.{Stood}
-use Rattle.matching.proofs.AlongLaws.{next-trivia, by-next, by-stops, by-node}
+use Rattle.matching.proofs.MeasuredLaws.{all-four}
+use Rattle.matching.proofs.AlongLaws.{next-trivia, by-next, by-node}
 
 -- ---- bytes before the place
 
@@ -73,44 +76,10 @@ module _ (xs ys : List ℕ) (from : ℕ) (out : List ℕ) (e : take (length xs +
       ∙ sym (drop-at (take (length xs) (drop from out)) (take (length ys) (drop (length xs) (drop from out))) (length xs) (ap length part-first))
       ∙ ap (drop (length xs)) (sym (take-add (length xs) (length ys) (drop from out)) ∙ e) ∙ drop-at xs ys (length xs) refl
 
--- ---- one attempt and then another, taken apart
-
-pub record Parted (a b : Attempt) (es : List Event) : Type 0 where
-  pub first : List Event
-  pub second : List Event
-  pub first-is : a ≡ matched first
-  pub second-is : b ≡ matched second
-  pub whole : es ≡ first ++ second
-
-abbrev eventsOf : Attempt → List Event
-eventsOf failed = []
-eventsOf (matched es) = es
-
-abbrev isMatch : Attempt → Bool
-isMatch failed = false
-isMatch (matched es) = true
-
-pub parted : (a b : Attempt) (es : List Event) → andThen a b ≡ matched es → Parted a b es
-unfolding andThen
-parted failed b es e = absurd (false≢true (ap isMatch e))
-parted (matched fs) failed es e = absurd (false≢true (ap isMatch e))
-parted (matched fs) (matched gs) es e = record { first = fs; second = gs; first-is = refl; second-is = refl; whole = sym (ap eventsOf e) }
-
-pub given-holds : (b : Bool) (es : List Event) → given b ≡ matched es → (b ≡ true) × (es ≡ [])
-given-holds true es e = (refl, sym (ap eventsOf e))
-given-holds false es e = absurd (false≢true (ap isMatch e))
-
 -- ---- the tests of a sibling that asks by its name
-
-all-of : (a l b k d : Bool) → a ≡ true → l ≡ true → b ≡ true → k ≡ false → d ≡ true → ((a && l) && b && not k && d) ≡ true
-all-of a l b k d e f g h i = rw (e, f, g, h, i)
 
 first-false : (a l b k d : Bool) → a ≡ false → ((a && l) && b && not k && d) ≡ false
 first-false a l b k d e = rw (e)
-
-and-false : (a : Bool) → (a && false) ≡ false
-and-false true = refl
-and-false false = refl
 
 last-false : (a b k d : Bool) → d ≡ false → (a && b && not k && d) ≡ false
 last-false a b k d e = rw (e) (and-false (a && b && not k))
@@ -209,8 +178,8 @@ module _ (f : Elems → Elems → Attempt) (x : Matcher) (ps cs p : Elems) (befo
         where
           by : (b : Bool) → some (patternName (skipTrivia p)) ≡ b → end ≡ from + length (comments (parts u v n .first))
           by true e =
-              let is : named ≡ true = asked ∙ all-of on (leb (s .noted) (length out)) (isNode (skipTrivia p)) (isToken c) (some (patternName
-              (skipTrivia p))) o (le-leb (s .noted) (length out) h) n k e in
+              let is : named ≡ true = asked ∙ all-four (on && leb (s .noted) (length out)) (isNode (skipTrivia p)) (isToken c) (some
+              (patternName (skipTrivia p))) (and-of o (le-leb (s .noted) (length out) h)) n k e in
               measured (parts u v n .first) is (named-matches u v n e) ∙ noted-fits (length out) (parts u v n .first) from (omega (
                 arith,
                 first-fits

@@ -38,10 +38,6 @@ pub acted : (a : Attempt) (s : State) (out : List ℕ) (r : Answer) (out′ : Li
 acted failed s out r out′ g h = absurd (false≢true (sym (ap (λ (q : Answer). q .ok) (g .answer)) ∙ h))
 acted (matched es) s out r out′ g h = record { events = es; matches = refl; state = ap (λ (q : Answer). q .state) (g .answer); buffer = g .buffer }
 
-pub failed-of : (a : Attempt) (s : State) (out : List ℕ) (r : Answer) (out′ : List ℕ) → Gives a s out r out′ → r .ok ≡ false → a ≡ failed
-failed-of failed s out r out′ g h = refl
-failed-of (matched es) s out r out′ g h = absurd (true≢false (sym (ap (λ (q : Answer). q .ok) (g .answer)) ∙ h))
-
 -- ---- the turns of a sequence
 
 module _ (x : Matcher) (pe : ℕ) (p : List ℕ) (ce : ℕ) (c : List ℕ) (s : State) (out : List ℕ) (k n : ℕ)

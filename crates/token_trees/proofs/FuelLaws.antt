@@ -1,7 +1,7 @@
 -- More calls change nothing of a match: what matches within a bound matches, with the same events, within any larger one.
 -- Assumes nothing.
-use mathlib.Core.Path.{_≡_, refl, ap, subst}
-use mathlib.Core.Bool.{Bool, true, false, cond, false≢true}
+use mathlib.Core.Path.{_≡_, refl, subst}
+use mathlib.Core.Bool.{Bool, true, false, cond}
 use mathlib.Core.List.{List, _++_}
 use Prim.Native.Nat.{ℕ, zero, suc, _+_, _-_, _≤_}
 use native.Mathlib.Nat.{add-zero, add-suc}
@@ -10,6 +10,7 @@ use Rattle.syntax.specs.Trees.{Elems}
 use Rattle.syntax.specs.Accessors.{some}
 use Rattle.siblings.specs.Siblings.{isToken, isTrivia, skipTrivia}
 use Rattle.captures.specs.Attempts.{Event, Attempt, failed, matched, andThen}
+use Rattle.captures.proofs.PartLaws.{fails-not}
 use Rattle.matcher.specs.Matcher.{Matcher, isPlaceholder}
 use Rattle.token_trees.specs.Runs.{Run}
 use Rattle.token_trees.specs.TokenTrees.{matchTokenTree, matchTokens, matchRun}
@@ -18,15 +19,11 @@ use Rattle.token_trees.specs.TokenTrees.{matchTokenTree, matchTokens, ma
 abbrev pub Below : Attempt → Attempt → Type 0
 Below a b = (es : List Event) → a ≡ matched es → b ≡ matched es
 
-abbrev matches : Attempt → Bool
-matches failed = false
-matches (matched es) = true
-
 pub below-refl : (a : Attempt) → Below a a
 below-refl a es e = e
 
 pub below-failed : (b : Attempt) → Below failed b
-below-failed b es e = absurd (false≢true (ap matches e))
+below-failed b es e = fails-not es e
 
 pub below-then : {a a′ b b′ : Attempt} → Below a a′ → Below b b′ → Below (andThen a b) (andThen a′ b′)
 unfolding andThen
@@ -71,13 +68,3 @@ mutual
   step-run zero x p c u = below-failed _
   step-run (suc n) x p c u =
       below-then (below-cond (u .isTree) (step-tree n x _ _) (below-refl _)) (below-then (below-refl _) (step-tokens n x _ _))
-
--- ---- any larger bound
-pub more-tree : (m n : ℕ) → m ≤ n → (x : Matcher) (p c : Elems) → Below (matchTokenTree m x p c) (matchTokenTree n x p c)
-more-tree m n h x p c = below-more (λ k. matchTokenTree k x p c) (λ k. step-tree k x p c) m n h
-
-pub more-tokens : (m n : ℕ) → m ≤ n → (x : Matcher) (ps cs : Elems) → Below (matchTokens m x ps cs) (matchTokens n x ps cs)
-more-tokens m n h x ps cs = below-more (λ k. matchTokens k x ps cs) (λ k. step-tokens k x ps cs) m n h
-
-pub more-run : (m n : ℕ) → m ≤ n → (x : Matcher) (p c : Elems) (u : Run) → Below (matchRun m x p c u) (matchRun n x p c u)
-more-run m n h x p c u = below-more (λ k. matchRun k x p c u) (λ k. step-run k x p c u) m n h

@@ -1,7 +1,7 @@
 -- `captures::fits` meets its contract.
 -- Assumes nothing.
-use mathlib.Core.Path.{_≡_, sym}
-use mathlib.Core.Bool.{true, true≢false}
+use mathlib.Core.Path.{sym}
+use mathlib.Core.Bool.{true≢false}
 use Prim.Native.Nat.{_-_}
 use native.Mathlib.Omega.{arith}
 use borrow.Author.Tests.{leb-true, leb-false}

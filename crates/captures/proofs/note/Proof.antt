@@ -10,7 +10,6 @@ use borrow.Author.Needs.{needs}
 use Rattle.words.specs.Buffer.{laidIfRoom}
 use Rattle.syntax.specs.Trees.{elems}
 use Rattle.syntax.specs.Accessors.{textOf}
-use Rattle.captures.specs.Attempts.{Noted}
 use Rattle.captures.proofs.AttemptLaws.{if-room-length}
 use Rattle.captures.proofs.note.Statement.{statement}
 use Rattle.captures.proofs.note.Tie as tie

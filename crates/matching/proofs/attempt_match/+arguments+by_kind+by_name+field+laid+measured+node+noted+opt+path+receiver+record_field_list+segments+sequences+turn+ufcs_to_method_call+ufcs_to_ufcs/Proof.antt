@@ -3,7 +3,7 @@
 -- right for the whole.
 -- Assumes nothing.
 use mathlib.Core.Path.{_≡_, refl, sym, ap, _∙_}
-use mathlib.Core.Bool.{Bool, true, not, _&&_, true≢false}
+use mathlib.Core.Bool.{Bool, true, _&&_, true≢false}
 use mathlib.Core.List.{List}
 use Prim.Native.Nat.{ℕ, _<_, _+_, _*_, _-_, _≤_}
 use lib.ListN.{length, drop}
@@ -12,7 +12,7 @@ use denote.Ref.{now}
 use borrow.Author.Needs.{needs}
 use native.Mathlib.Omega.{arith}
 use native.Mathlib.Nat.{add-zero}
-use borrow.Author.Tests.{eq-eqb, ne-eqb}
+use borrow.Author.Tests.{eq-eqb, ne-eqb, not-true, not-false}
 use Rattle.syntax.specs.Trees.{elems}
 use Rattle.syntax.proofs.AccessorLaws.{number-is}
 use Rattle.words.proofs.TestLaws.{and-both}
@@ -28,7 +28,6 @@ use Rattle.matching.proofs.CallLaws as method
 use Rattle.matching.specs.StartingOver.{isSilent}
 use Rattle.matching.proofs.TurnLaws as went
 use Rattle.matching.proofs.NameLaws as name
-use Rattle.matching.proofs.NameLaws.{not-holds, not-fails}
 use Rattle.matching.proofs.MeasuredLaws as measure
 use Rattle.matching.proofs.LaidLaws as lay
 use borrow.Fn.Kinds.{In}
@@ -864,7 +863,7 @@ by-name-returns t c =
       l .inv .2,
       l .inv .3 _ _ (name.by-name-ends matcher (a .pe) (now (a .p)) (l .at) (a .ce) (now (a .c)) (l .by) (a .leaves) (l .t) (l .out) (now
           (c₃ .behind .result)) (c₃ .behind .ensures .0) (c₂ .goes-on .result) (c₂ .goes-on .ensures (now (a .rule)) (now (a .file)) (now (a .words))
-          (now (a .facts)) (a .cx)) (not-holds (c₂ .goes-on .result) (c₁ .if1 .taken)) _ (c .done .ensures)),
+          (now (a .facts)) (a .cx)) (not-true (c₂ .goes-on .result) (c₁ .if1 .taken)) _ (c .done .ensures)),
     )
 
 by-name-field-requires : (t : ℕ) → by-name-lts.Need-field-requires (by-name-claims t) (by-name-at t) by-name.Post by-name-Inv-loop by-name-μ-loop
@@ -881,7 +880,7 @@ by-name-width-requires t c κs =
       arith,
       name.by-name-long matcher (a .pe) (now (a .p)) (l .at) (a .ce) (now (a .c)) (l .by) (a .leaves) (l .t) (l .out) (now
           (c₉ .behind .result)) (c₉ .behind .ensures .0) (c₈ .goes-on .result) (c₈ .goes-on .ensures (now (a .rule)) (now (a .file)) (now (a .words))
-          (now (a .facts)) (a .cx)) (not-fails (c₈ .goes-on .result) (c₇ .if1 .left)),
+          (now (a .facts)) (a .cx)) (not-false (c₈ .goes-on .result) (c₇ .if1 .left)),
     )
 
 by-name-add-at : (t : ℕ) → by-name-lts.Need-add-at (by-name-claims t) (by-name-at t) by-name.Post by-name-Inv-loop by-name-μ-loop
@@ -907,7 +906,7 @@ by-name-loop-again t c =
       λ r end g. l .inv .3 r
           end (name.by-name-next matcher (a .pe) (now (a .p)) (l .at) (a .ce) (now (a .c)) (l .by) (a .leaves) (l .t) (l .out) (now
           (c₁₀ .behind .result)) (c₁₀ .behind .ensures .0) (c₉ .goes-on .result) (c₉ .goes-on .ensures (now (a .rule)) (now (a .file)) (now (a .words))
-          (now (a .facts)) (a .cx)) (not-fails (c₉ .goes-on .result) (c₈ .if1 .left)) _ _ (c₆ .field .ensures .1) (c₃ .if2 .taken) _ refl
+          (now (a .facts)) (a .cx)) (not-false (c₉ .goes-on .result) (c₈ .if1 .left)) _ _ (c₆ .field .ensures .1) (c₃ .if2 .taken) _ refl
           (c .width .result) (c₁ .past .result) (c .width .ensures .1) (c₁ .past .ensures .1) r end g),
     )
 
@@ -924,7 +923,7 @@ by-name-returns-2 t c =
       c₄ .field .ensures .0 ∙ l .inv .2,
       l .inv .3 _ _ (name.by-name-fails matcher (a .pe) (now (a .p)) (l .at) (a .ce) (now (a .c)) (l .by)
           (a .leaves) (l .t) (l .out) (now (c₈ .behind .result)) (c₈ .behind .ensures .0) (c₇ .goes-on .result) (c₇ .goes-on .ensures (now (a .rule))
-          (now (a .file)) (now (a .words)) (now (a .facts)) (a .cx)) (not-fails (c₇ .goes-on .result) (c₆ .if1 .left)) _ _ (c₄ .field .ensures .1)
+          (now (a .file)) (now (a .words)) (now (a .facts)) (a .cx)) (not-false (c₇ .goes-on .result) (c₆ .if1 .left)) _ _ (c₄ .field .ensures .1)
           (c₁ .if2 .left) _ (c .fail .ensures)),
     )
 
