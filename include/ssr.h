@@ -1,10 +1,15 @@
-/* The C ABI of structural search and replace: one function for each operation of document 01, and two that check
- * a tree with its facts by itself.
+/* The C ABI of structural search and replace: one function for each operation of document 01, and two that
+ * check a tree with its facts by itself. docs/FORMAT.md says what words, texts and rules are.
  *
- * A slice is handed over as two arguments, a pointer to its first element and its number of elements.
- * The pointer of an empty slice is not read, and must not be null. Nothing is kept after a call, nothing
- * is allocated, and no call fails: for every input, damaged ones too, the result is the one that the
- * definitions under crates/ssr/specs give. docs/FORMAT.md says what words and texts are.
+ * A slice is handed over as two arguments, a pointer to its first element and its number of elements. The
+ * pointer of an empty slice is not read, and must not be null. The slice that is written to, `out`, shares no
+ * byte with another. Nothing is kept after a call, nothing is allocated, and no call fails: for every input,
+ * damaged ones too, the result is the one that the definitions under crates/ssr/specs give.
+ *
+ * In an answer everything that is not used is 0; after a refusal that is all but its number.
+ *
+ * Of `out` the first SSR_BUFFER_BYTES bytes, or all of a shorter one, hold the result and then 0; after a
+ * refusal they are all 0. Bytes beyond never change.
  */
 #ifndef SSR_H
 #define SSR_H
@@ -16,9 +21,89 @@
 extern "C" {
 #endif
 
-/* The most placeholders of a list, and the most constraints that a list of 255 tokens can hold. */
+/* The most tokens and placeholders of a list, and the most constraints that so many tokens can hold. */
+#define SSR_TOKENS 255
 #define SSR_PLACEHOLDERS 8
 #define SSR_CONSTRAINTS 50
+
+/* The most elements of a tree, bytes of its text, its greatest depth, and the most facts of a tree. */
+#define SSR_TREE_ELEMENTS 16383
+#define SSR_TREE_BYTES 65535
+#define SSR_TREE_DEPTH 128
+#define SSR_FACTS 16383
+
+/* How many lengths a row of the directory has. */
+#define SSR_ROW_LENGTHS 27
+
+/* The most bytes of `out` that are used. */
+#define SSR_BUFFER_BYTES 1048576
+
+/* The refusals by document 01's numbers, each with its condition; 0 is no refusal. Each function below says
+ * which of them it answers, in the order in which they are looked for.
+ */
+typedef enum ssr_refusal {
+    /* Of a token list; 1 of the directory too. */
+    SSR_MALFORMED_LIST = 1,            /* malformed list or over SSR_TOKENS tokens */
+    SSR_ENDS_AFTER_BRACE = 2,          /* list ends after `${` */
+    SSR_ENDS_BEFORE_CLOSING_BRACE = 3, /* ends before `}` */
+    SSR_UNEXPECTED_TOKEN = 4,          /* another token inside the braces */
+    SSR_NEITHER_NAME_NOR_BRACE = 5,    /* after `$` a token that is neither IDENT nor `{` */
+    SSR_NO_NAME = 6,                   /* no name, met at `}` or where the list ends right after `$` */
+    SSR_ENDS_BEFORE_CONSTRAINT = 7,    /* ends where a constraint should start */
+    SSR_UNSUPPORTED_CONSTRAINT = 8,    /* neither `kind` nor `not` */
+    SSR_MISSING_PARENTHESIS = 9,       /* `(` or `)` missing */
+    SSR_NO_KIND_IDENT = 10,            /* no IDENT inside `kind` */
+    SSR_UNKNOWN_KIND = 11,             /* unknown kind, looked at after `)` */
+    SSR_REPEATED_NAME = 12,            /* name repeated */
+    SSR_NINTH_PLACEHOLDER = 13,        /* ninth placeholder, its name new */
+    /* Of a pair of lists. */
+    SSR_TEMPLATE_CONSTRAINT = 14,      /* constraint in the template */
+    SSR_UNDEFINED_PLACEHOLDER = 15,    /* undefined placeholder: the pattern has none of its name */
+    /* Of `out`. */
+    SSR_DOES_NOT_FIT = 16,             /* does not fit: the raw code, or the comments of a match */
+    /* Of a pair's trees. */
+    SSR_NO_FORM = 17,                  /* no form has both its trees (its pattern alone, if no template was
+                                          given) */
+    /* Of a tree with its facts. */
+    SSR_TREE_TOO_LARGE = 18,           /* over SSR_TREE_ELEMENTS elements or SSR_TREE_BYTES bytes */
+    SSR_MALFORMED_TREE = 19,           /* malformed; over another text than the list's code too */
+    SSR_TREE_TOO_DEEP = 20,            /* an element deeper than SSR_TREE_DEPTH, the root being at 1 */
+    SSR_MALFORMED_FACTS = 21,          /* facts malformed (a range outside the fact text too), over SSR_FACTS,
+                                          or one repeated (sort, element, and step or module) */
+    /* Of the rules that are left. */
+    SSR_UNRESOLVED_PATH = 22,          /* a path that must resolve has no fact */
+    /* Of what is asked for. */
+    SSR_NO_SUCH_NODE_OR_RULE = 23      /* no such node or rule, or a range whose start is after its end */
+} ssr_refusal;
+
+/* A side of a rule. */
+typedef enum ssr_side {
+    SSR_SIDE_PATTERN = 0,
+    SSR_SIDE_TEMPLATE = 1
+} ssr_side;
+
+/* A form: what a list's code was parsed as. */
+typedef enum ssr_form {
+    SSR_FORM_EXPRESSION = 0,
+    SSR_FORM_TYPE = 1,
+    SSR_FORM_ITEM = 2,
+    SSR_FORM_PATTERN = 3,
+    SSR_FORM_STATEMENT = 4
+} ssr_form;
+
+/* Which tree a rule has for its template. */
+typedef enum ssr_template_tree {
+    SSR_TEMPLATE_TREE_ABSENT = 0,  /* none: no template was given */
+    SSR_TEMPLATE_TREE_OWN = 1,     /* its form's own */
+    SSR_TEMPLATE_TREE_STAND_IN = 2 /* the statement's in place of the expression's */
+} ssr_template_tree;
+
+/* How a function takes its receiver. */
+typedef enum ssr_self_kind {
+    SSR_SELF_OWNED = 0,
+    SSR_SELF_REF = 1,    /* `&` */
+    SSR_SELF_REF_MUT = 2 /* `&mut` */
+} ssr_self_kind;
 
 /* A placeholder: its name is the bytes from start up to end of the list's text. */
 typedef struct ssr_placeholder {
@@ -27,23 +112,7 @@ typedef struct ssr_placeholder {
     size_t constraints; /* how many constraints it has */
 } ssr_placeholder;
 
-/* The answer of reading tokens. Everything that is not used is 0; after a refusal that is all but the number. */
 typedef struct ssr_read_tokens_answer {
-    /* 0 if the list was read, else the number of the refusal:
-     *    1  malformed list, or over 255 tokens
-     *    2  the list ends after `${`
-     *    3  it ends before `}`
-     *    4  another token inside the braces
-     *    5  after `$` a token that is neither an identifier nor `{`
-     *    6  no name
-     *    7  the list ends where a constraint should start
-     *    8  a constraint that is neither `kind` nor `not`
-     *    9  `(` or `)` missing
-     *   10  no identifier inside `kind`
-     *   11  unknown kind
-     *   12  a name repeated
-     *   13  a ninth placeholder, its name new
-     */
     uint32_t refusal;
     size_t count; /* how many placeholders there are */
     ssr_placeholder placeholders[SSR_PLACEHOLDERS]; /* in the order of the list */
@@ -52,14 +121,15 @@ typedef struct ssr_read_tokens_answer {
     uint8_t nots[SSR_CONSTRAINTS];
 } ssr_read_tokens_answer;
 
-/* Reading tokens: the placeholders of a token list, or the first refusal met from the left. */
+/* Reading tokens: the placeholders of a token list.
+ * Refusals: 1, then the first of 2 to 13 that is met from the left.
+ */
 ssr_read_tokens_answer ssr_read_tokens(const uint32_t *words, size_t words_length,
                                        const uint8_t *text, size_t text_length);
 
-/* Checking a pair: 0 if it is fine, else the lowest refusal (1 to 13) of its two lists, or
- *   14  a constraint in the template
- *   15  a placeholder in the template that the pattern does not define
- * With template_given 0 the pair is its pattern alone, and the template's slices are not looked at.
+/* Checking a pair: the refusal. With template_given 0 the pair is its pattern alone, and the template's
+ * slices are not looked at.
+ * Refusals: 1 to 13 as by reading tokens, the lower where both lists refuse; then 14; then 15.
  */
 uint32_t ssr_check_pair(const uint32_t *pattern_words, size_t pattern_words_length,
                         const uint8_t *pattern_text, size_t pattern_text_length,
@@ -67,36 +137,32 @@ uint32_t ssr_check_pair(const uint32_t *pattern_words, size_t pattern_words_leng
                         const uint32_t *template_words, size_t template_words_length,
                         const uint8_t *template_text, size_t template_text_length);
 
-/* The answer of writing raw code. */
 typedef struct ssr_raw_code_answer {
-    uint32_t refusal; /* 0 if the code was written, else 1 to 13, or 16 where it does not fit */
-    size_t length; /* of the code; 0 after a refusal */
+    uint32_t refusal;
+    size_t length; /* of the code */
 } ssr_raw_code_answer;
 
-/* Writing raw code: the list's text with every placeholder written as `__placeholder_` and its name.
- * The first 1,048,576 bytes of the buffer, or all of a shorter one, hold the code and then 0; after a
- * refusal they are all 0. Bytes beyond never change.
+/* Writing raw code: `out` holds the list's text with every placeholder written as `__placeholder_` and its
+ * name.
+ * Refusals: 1 to 13 as by reading tokens; then 16.
  */
 ssr_raw_code_answer ssr_raw_code(const uint32_t *words, size_t words_length,
                                  const uint8_t *text, size_t text_length,
                                  uint8_t *out, size_t out_length);
 
-/* The file's tree with its facts: 0 if both are well-formed, else
- *   18  over 16,383 elements or 65,535 bytes
- *   19  malformed
- *   20  an element deeper than 128, the root being at 1
- *   21  facts malformed, over 16,383, or one repeated
- * in this order. It uses less than 300 KB of stack, whatever the depth of the tree.
+/* The file's tree with its facts: the refusal. It uses less than 300 KB of stack, whatever the depth of the
+ * tree.
+ * Refusals: 18, 19, 20, 21.
  */
 uint32_t ssr_check_file(const uint32_t *tree, size_t tree_length,
                         const uint8_t *text, size_t text_length,
                         const uint32_t *facts, size_t facts_length);
 
-/* A rule's tree with its facts: 0, or the refusal (1 to 13) of its list, or 18 to 21 as above. The code is the
- * list's raw code without WHITESPACE tokens at its ends; another text is 19.
- * With list_given 0 the side has no list: a template that was not given. Its list and text are not looked at, and
- * a tree that is handed in all the same is 18 or 19.
- * The tree is the pattern's where side is 0, else the template's. One without words is absent: 21 if it has facts.
+/* A rule's tree with its facts: the refusal. The tree is the pattern's where side is SSR_SIDE_PATTERN, else
+ * the template's; the code is the list's raw code without WHITESPACE tokens at its ends.
+ * With list_given 0 the side has no list: a template that was not given. Its list and text are not looked at,
+ * and a tree that is handed in all the same is 18 or 19. A tree without words is absent: 21 if it has facts.
+ * Refusals: 1 to 13 of the list as by reading tokens; then 18, 19, 20, 21.
  */
 uint32_t ssr_check_rule_tree(uint32_t list_given,
                              const uint32_t *list, size_t list_length,
@@ -107,42 +173,39 @@ uint32_t ssr_check_rule_tree(uint32_t list_given,
                              const uint32_t *facts, size_t facts_length,
                              const uint8_t *fact_text, size_t fact_text_length);
 
-/* The rules of pairs, docs/FORMAT.md "Rules": the directory has a row of 27 lengths for each pair; the words are
- * the token lists, the trees and the facts of all pairs, and the bytes their texts and codes, each pair's in the
- * order of its row. A pair has five forms, 0 expression, 1 type, 2 item, 3 pattern and 4 statement, and of each a
- * pattern's tree and a template's, which may be absent. The rules that are left have numbers from 0 on, by pair and
- * then by form.
+/* Rules are handed in as pairs of a pattern and, if one is given, a template. The directory has a row of
+ * SSR_ROW_LENGTHS lengths for each pair; the words are the token lists, the trees and the facts of all pairs,
+ * and the bytes their texts and codes, each pair's in the order of its row. Of each form a pair has a
+ * pattern's tree and a template's, which may be absent. The rules that are left have numbers from 0 on, by
+ * pair and then by form.
  *
- * The refusals, each over all pairs before the next:
- *   1 to 15   a malformed directory (1), or the refusal of checking a pair
- *   18 to 20  of a tree, as above; 21 of its facts, where these are looked at
- *   17        a pair of which no form has both its trees (its pattern's alone, if no template was given)
- * Where several lists or trees refuse, the lowest of their numbers is given.
+ * Their refusals are looked for in stages, each over all pairs before the next. Where several lists or trees
+ * refuse in a stage, the lowest of their numbers is given.
+ *   1         of the directory
+ *   1 to 15   as by checking a pair
+ *   18 to 21  as by checking a rule's tree
+ *   17
+ *   22
  */
 
-/* The answer of building rules. Everything that is not used is 0; after a refusal that is all but the number. */
 typedef struct ssr_build_rules_answer {
-    uint32_t refusal; /* 0 if the rules were built, else 1 to 15, 18 to 20 or 17, in this order */
+    uint32_t refusal;
     size_t rules; /* how many rules are left */
     uint32_t found; /* 1 if there is a rule of the number that was asked for */
     size_t pair; /* the number of its pair, from 0 on */
-    size_t form; /* its form */
-    /* Its template's tree: 0 no template was given, 1 the form's own tree, 2 the statement's in place of the
-     * expression's. */
-    uint32_t template_tree;
+    size_t form; /* its ssr_form */
+    uint32_t template_tree; /* its ssr_template_tree */
 } ssr_build_rules_answer;
 
-/* Building rules, with the number of a rule that is asked for. Facts are not looked at. */
+/* Building rules, with the number of a rule that is asked for. Facts are not looked at.
+ * Refusals: the stages up to 17, without 21.
+ */
 ssr_build_rules_answer ssr_build_rules(const uint32_t *directory, size_t directory_length,
                                        const uint32_t *words, size_t words_length,
                                        const uint8_t *bytes, size_t bytes_length,
                                        size_t rule);
 
-/* The answer of resolving. Everything that is not used is 0; after a refusal that is all but the number. */
 typedef struct ssr_resolve_answer {
-    /* 0 if the rules were resolved, else 1 to 15, 18 to 21, 17 or, after these,
-     *   22  a path of a rule that is left and that must resolve does not
-     */
     uint32_t refusal;
     uint32_t found; /* 1 if there is such a rule, it has the side, and the side's tree has the element */
     uint32_t resolved; /* 1 if the element is a resolved path */
@@ -154,9 +217,10 @@ typedef struct ssr_resolve_answer {
     uint32_t contains_self; /* 1 if the side's tree has a token of kind 11, `self` */
 } ssr_resolve_answer;
 
-/* Resolving, with the rule, the side and the element that are asked for. The fact text is one for all pairs. Rules
- * are numbered as by building. Side 0 is the pattern, 1 the template; a rule without a template has no side 1.
- * Elements are numbered from 0 on, in the order of the tree's words. It uses less than 700 KB of stack.
+/* Resolving, with the rule, the ssr_side and the element that are asked for. The fact text is one for all
+ * pairs. A rule without a template has no SSR_SIDE_TEMPLATE. Elements are numbered from 0 on, in the order of
+ * the tree's words. It uses less than 700 KB of stack.
+ * Refusals: the stages.
  */
 ssr_resolve_answer ssr_resolve(const uint32_t *directory, size_t directory_length,
                                const uint32_t *words, size_t words_length,
@@ -164,33 +228,27 @@ ssr_resolve_answer ssr_resolve(const uint32_t *directory, size_t directory_lengt
                                const uint8_t *fact_text, size_t fact_text_length,
                                size_t rule, uint32_t side, size_t element);
 
-/* A placeholder's binding. One that is not bound is all 0. */
+/* A placeholder's binding. */
 typedef struct ssr_binding {
     uint32_t bound; /* 1 if the placeholder is bound */
     uint32_t start; /* what it captured: the bytes from start up to end of the file's text */
     uint32_t end;
-    uint32_t stars; /* for the receiver of a method call, how often it is dereferenced; else 0 */
-    uint32_t self_kind; /* for that receiver, how its function takes it: 0 owned, 1 `&`, 2 `&mut` */
+    uint32_t stars; /* for the receiver of a method call, how often it is dereferenced */
+    uint32_t self_kind; /* for that receiver, its ssr_self_kind */
 } ssr_binding;
 
-/* The answer of matching one node. Everything that is not used is 0; after a refusal that is all but the number, and
- * without a match all. */
 typedef struct ssr_match_node_answer {
-    /* 0 if nothing was refused, else 1 to 15, 18 to 21 of the rules' trees and the file's, 17, 22 or, after these,
-     *   23  no such node or rule, or a range whose start is after its end
-     *   16  the comments of the match do not fit, which comes last
-     */
     uint32_t refusal;
-    uint32_t matched; /* 1 if the node matches */
+    uint32_t matched; /* 1 if the node matches; else nothing below is used */
     size_t length; /* how many bytes its noted comments have */
     ssr_binding bindings[SSR_PLACEHOLDERS]; /* in pattern order */
 } ssr_match_node_answer;
 
-/* Matching one node of a file with one rule: node is an element's number in the file's tree, rule is numbered as by
- * building. With range_given 0 the range is not looked at; else the node has to lie in it, where both ends may be the
- * node's own. The buffer holds the texts of the noted comments in turn, and then 0; without a match, and after a
- * refusal, it is all 0 (its first 1,048,576 bytes, or all of a shorter one; bytes beyond never change).
- * It uses less than 2 MB of stack.
+/* Matching one node of a file with one rule: node is the number of an element of the file's tree. With
+ * range_given 0 the range is not looked at; else only a node that lies in it matches, where both ends may be
+ * the node's own. `out` holds the texts of the noted comments in turn, without a match nothing. It uses less
+ * than 2 MB of stack.
+ * Refusals: the stages, with 18 to 21 of the file's tree among those of the rules'; then 23; last 16.
  */
 ssr_match_node_answer ssr_match_node(const uint32_t *directory, size_t directory_length,
                                      const uint32_t *words, size_t words_length,

@@ -6,6 +6,7 @@ use mathlib.Core.List.{List, [], _∷_}
 use Prim.Native.Nat.{ℕ, zero, suc, _+_, _*_, _/_, _<_, _≤_}
 use native.Mathlib.Omega.{arith}
 use lib.Dec.{eqb}
+use borrow.Author.Tests.{ne-eqb}
 use lib.ListN.{length, drop, getD, length-drop, List·getD-eq-default}
 use lib.Seq.{drop-cons, drop-drop}
 use Rattle.words.specs.Fields.{kindAt}
@@ -115,7 +116,11 @@ module _ (owner : Owner) (tree : Elems) (n : ℕ) where
   pub all-stop : (l : List ℕ) → 0 < length l → (isFactPart l && isFact owner tree n (factAt l)) ≡ false → allFacts l ≡ false
   all-stop l h t = all-step l h ∙ rw t
 
-  pub all-end : (l : List ℕ) → length l ≤ 0 → allFacts l ≡ true
+  -- fewer words than four are facts where there are none
+  pub all-last : (l : List ℕ) → length l < 4 → eqb (length l) 0 ≡ allFacts l
   unfolding areFactWords factsOf areFacts
-  all-end [] h = refl
-  all-end (a ∷ l) h = absurd (omega arith)
+  all-last [] h = refl
+  all-last (a ∷ []) h = ne-eqb (length (a ∷ [])) 0 (λ e. omega arith)
+  all-last (a ∷ (b ∷ [])) h = ne-eqb (length (a ∷ b ∷ [])) 0 (λ e. omega arith)
+  all-last (a ∷ (b ∷ (c ∷ []))) h = ne-eqb (length (a ∷ b ∷ c ∷ [])) 0 (λ e. omega arith)
+  all-last (a ∷ (b ∷ (c ∷ (d ∷ l)))) h = absurd (omega arith)

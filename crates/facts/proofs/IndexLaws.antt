@@ -239,7 +239,7 @@ module _ (fs : List Fact) (few : length fs ≤ 16383) (k : ℕ) where
       (λ i. found-end k entries i ∙ length-all ∙ sym n))
 
 -- an index finds what the list has
-pub find-exactly : (fs : List Fact) → Ranged fs → length fs ≤ 16383 → (s e x : ℕ) → e < 16384 → x < 268435456 → foundIn (keyNumber s e x) (sort (entriesFrom 0 fs)) ≡ factIndex s e x fs
+pub find-exactly : (fs : List Fact) → Ranged fs → length fs ≤ 16383 → (s e x : ℕ) → s < 16 → x < 268435456 → foundIn (keyNumber s e x) (sort (entriesFrom 0 fs)) ≡ factIndex s e x fs
 find-exactly fs w few s e x h g = found-place fs few (keyNumber s e x) ∙ sym (index-place s e x h g fs w)
 
 module _ (l index : List ℕ) (x : Indexed l index) where
@@ -250,6 +250,6 @@ module _ (l index : List ℕ) (x : Indexed l index) where
   unfolding indexOf
   indexed-rising = sort-rising (entriesFrom 0 (factsOf l))
 
-  pub indexed-find : (s e x : ℕ) → e < 16384 → x < 268435456 → foundIn (keyNumber s e x) (indexOf l) ≡ factIndex s e x (factsOf l)
+  pub indexed-find : (s e x : ℕ) → s < 16 → x < 268435456 → foundIn (keyNumber s e x) (indexOf l) ≡ factIndex s e x (factsOf l)
   unfolding indexOf
   indexed-find s e n h g = find-exactly (factsOf l) (ranged l (x .low)) (x .few) s e n h g

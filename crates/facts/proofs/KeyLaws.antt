@@ -96,11 +96,12 @@ absent s e x (f ∷ fs) w n =
     let none : isKey s e x f ≡ false = never (isKey s e x f) (λ t. let p = key-parts s e x f t in n (rw (p .0) at (w .0 .low-sort)) (rw (p .1) at (w .0 .low-element)) (rw (p .2) at (low-selector f (w .0 .low-first)))) in
     rw (none, absent s e x fs (w .1) n) (omega arith)
 
-module _ (s e x : ℕ) (he : e < 16384) (hx : x < 268435456) where
+module _ (s e x : ℕ) (hs : s < 16) (hx : x < 268435456) where
   -- a fact has a key exactly if it has its number
   pub key-same : (f : Fact) → InRange f → isKey s e x f ≡ eqb (keyOf f) (keyNumber s e x)
   key-same f h =
       let m : selector f < 268435456 = low-selector f (h .low-first) in
+      let o = h .low-sort in
       both-ways (isKey s e x f) (eqb (keyOf f) (keyNumber s e x))
       (λ t.
       let p = key-parts s e x f t in
@@ -126,14 +127,14 @@ module _ (s e x : ℕ) (he : e < 16384) (hx : x < 268435456) where
 pub repeated-keys : (fs : List Fact) → Ranged fs → hasRepeated fs ≡ repeats (keysOf fs)
 unfolding hasRepeated repeats
 repeated-keys [] w = refl
-repeated-keys (f ∷ fs) w = rw (known-count (f .sort) (f .element) (selector f) (w .0 .low-element) (low-selector f (w .0 .low-first)) fs (w .1), repeated-keys fs (w .1))
+repeated-keys (f ∷ fs) w = rw (known-count (f .sort) (f .element) (selector f) (w .0 .low-sort) (low-selector f (w .0 .low-first)) fs (w .1), repeated-keys fs (w .1))
 
 -- ---- steps
 
 module _ (f : Fact) (h : InRange f) where
   -- the parts of its number
-  key-sort : keyOf f / 4398046511104 ≡ f .sort
-  key-sort = omega (arith, low-selector f (h .low-first))
+  key-sort : keyOf f / 268435456 % 16 ≡ f .sort
+  key-sort = omega (arith, h .low-sort, low-selector f (h .low-first))
 
   key-selector : keyOf f % 268435456 ≡ selector f
   key-selector = omega (arith, low-selector f (h .low-first))
@@ -158,7 +159,7 @@ module _ (f : Fact) (h : InRange f) where
     where
       by : (b : Bool) → isLater f ≡ b → (isLater f && not (isKnown 3 (f .element) (f .first - 1) all)) ≡ (isLaterKey (keyOf f) && not (ltb 0 (count (keyOf f - 1) (keysOf all))))
       by true t =
-          let k : isKnown 3 (f .element) (f .first - 1) all ≡ ltb 0 (count (keyOf f - 1) (keysOf all)) = known-count 3 (f .element) (f .first - 1) (h .low-element) (omega arith) all w ∙ ap (λ (k : ℕ). ltb 0 (count k (keysOf all))) (before-key t) in
+          let k : isKnown 3 (f .element) (f .first - 1) all ≡ ltb 0 (count (keyOf f - 1) (keysOf all)) = known-count 3 (f .element) (f .first - 1) (omega arith) (omega arith) all w ∙ ap (λ (k : ℕ). ltb 0 (count k (keysOf all))) (before-key t) in
           rw (later-key, t, k)
       by false t = rw (later-key, t)
 

@@ -1,5 +1,5 @@
--- The index of a fact list: one number a fact, its key and its place in the list, in rising order. The key is sort, element, and step or
--- module, as one number. What is refused and what is found is said by `Facts` alone; that an index says the same is proved.
+-- The index of a fact list: one number a fact, its key and its place in the list, in rising order. The key is element, sort, and step or
+-- module, as one number: facts that are listed by element are in order already. What is refused and what is found is said by `Facts` alone; that an index says the same is proved.
 -- Assumes nothing.
 use Prim.Native.Nat.{ℕ, _+_, _*_, _/_, _%_, _<_, _≤_}
 use mathlib.Core.Path.{_≡_}
@@ -10,9 +10,9 @@ use lib.ListN.{length, take, getD}
 use Rattle.sorting.specs.Sorted.{sort, below}
 use Rattle.facts.specs.Facts.{Fact, selector, factsOf}
 
--- sort, element, and step or module as one number; elements are below 16,384, and values below 2 ^ 28
+-- element, sort, and step or module as one number; sorts are below 16, and values below 2 ^ 28
 abbrev pub keyNumber : ℕ → ℕ → ℕ → ℕ
-keyNumber sort element select = (sort * 16384 + element) * 268435456 + select
+keyNumber sort element select = (element * 16 + sort) * 268435456 + select
 
 abbrev pub keyOf : Fact → ℕ
 keyOf f = keyNumber (f .sort) (f .element) (selector f)
@@ -35,7 +35,7 @@ indexOf l = sort (entriesFrom 0 (factsOf l))
 
 -- a later step's key
 abbrev pub isLaterKey : ℕ → Bool
-isLaterKey k = eqb (k / 4398046511104) 3 && ltb 0 (k % 268435456)
+isLaterKey k = eqb (k / 268435456 % 16) 3 && ltb 0 (k % 268435456)
 
 -- in rising entries: no key stands twice, and a later step's follows the key of the step before; next is the number after the last key
 unfoldable pub isSteady : ℕ → List ℕ → Bool

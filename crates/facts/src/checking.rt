@@ -132,15 +132,15 @@ fn are_facts(owner: Owner, words: &[u32], facts: &[u32], bytes: usize) -> bool
     ensures { λ r. ⌜ r ≡ (areFactWords (now (facts .entry)) && areFacts owner (tree (now (words .entry))) bytes (factsOf (now (facts .entry)))) ⌝ }
 {
     let mut c = facts;
-    while 0 < c.len() {
+    while 4 <= c.len() {
         if is_fact_part(c) & is_fact(owner, words, c, bytes) {
-            let d = fields::tail(c, 4);
+            let d = &c[4..];
             c = d;
         } else {
             return false;
         }
     }
-    true
+    c.len() == 0
 }
 
 // Whether words are the well-formed facts of a tree, with a fact text of some bytes. The index is theirs then, for `index::find`.

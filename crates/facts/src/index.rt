@@ -8,12 +8,12 @@ ghost use Rattle.words.specs.Fields.{valueAt, factElement};
 ghost use Rattle.facts.specs.Facts.{factAt, factsOf, factIndex, selector};
 ghost use Rattle.facts.specs.Keys.{keyNumber, keyOf, AreLow, entriesFrom, isLaterKey, isSteady, indexOf, foundIn, Indexed};
 
-// A sort, an element, and a step or module as one number.
+// An element, a sort, and a step or module as one number.
 fn key_number(sort: u32, element: usize, select: u32) -> u64
     requires { ⌜ (sort < 16) × (element < 16384) × (select < 268435456) ⌝ }
     ensures { λ r. ⌜ r ≡ keyNumber sort element select ⌝ }
 {
-    ((sort as u64) * 16384 + (element as u64)) * 268435456 + (select as u64)
+    ((element as u64) * 16 + (sort as u64)) * 268435456 + (select as u64)
 }
 
 // The step of sort 3 or the module of sort 7, of the fact that a part begins with; 0 of another.
@@ -66,7 +66,7 @@ pub fn make_index(facts: &[u32], index: &mut [u64], spare: &mut [u64])
 fn is_later_key(key: u64) -> bool
     ensures { λ r. ⌜ r ≡ isLaterKey key ⌝ }
 {
-    (key / 4398046511104 == 3) & (0 < key % 268435456)
+    (key / 268435456 % 16 == 3) & (0 < key % 268435456)
 }
 
 // Whether no key of an index stands twice and every later step follows the one before.

@@ -1,1 +1,2 @@
 mod DirectoryLaws
+pub mod PairLaws

@@ -4,11 +4,11 @@ use words::fields;
 use words::texts;
 ghost use mathlib.Core.Path.{_≡_};
 ghost use mathlib.Core.Bool.{true, false};
-ghost use mathlib.Core.List.{[]};
-ghost use Prim.Native.Nat.{_≤_};
-ghost use lib.ListN.{drop};
+ghost use mathlib.Core.List.{List, []};
+ghost use Prim.Native.Nat.{ℕ, _≤_};
+ghost use lib.ListN.{length, drop};
 ghost use Rattle.fragments.specs.Directory.{counted};
-ghost use Rattle.fragments.specs.Pairs.{partOf, inWords, inBytes, listOf, textOf, codeOf, isGiven, treeOf, factsOf};
+ghost use Rattle.fragments.specs.Pairs.{pairAt, partOf, inWords, inBytes, listOf, textOf, codeOf, isGiven, treeOf, factsOf};
 
 // The words that an entry counts.
 pub fn word_part<'a>(row: &[u32], words: &'a [u32], k: usize) -> &'a [u32]
@@ -47,6 +47,55 @@ pub fn next_bytes<'a>(row: &[u32], bytes: &'a [u8]) -> &'a [u8]
     ensures { λ r. ⌜ now r ≡ drop (counted false (now (row .entry))) (now (bytes .entry)) ⌝ }
 {
     texts::tail(bytes, directory::counted_before(row, false, 27))
+}
+
+// The row of the pair of a number.
+pub fn row_at(directory: &[u32], number: usize) -> &[u32]
+    ensures { λ r. ⌜ ((words bytes : List ℕ) → now r ≡ pairAt number (now (directory .entry)) words bytes .row) ⌝ }
+{
+    let mut row = directory;
+    let mut n = number;
+    while 0 < n {
+        let next = next_row(row);
+        row = next;
+        n -= 1;
+    }
+    row
+}
+
+// Its words.
+pub fn words_at<'a>(directory: &[u32], words: &'a [u32], number: usize) -> &'a [u32]
+    ensures { λ r. ⌜ ((bytes : List ℕ) → now r ≡ pairAt number (now (directory .entry)) (now (words .entry)) bytes .words) ⌝ }
+    ensures { λ r. ⌜ length (now r) ≤ length (now (words .entry)) ⌝ }
+{
+    let mut row = directory;
+    let mut w = words;
+    let mut n = number;
+    while 0 < n {
+        let next = next_words(row, w);
+        let behind = next_row(row);
+        w = next;
+        row = behind;
+        n -= 1;
+    }
+    w
+}
+
+// Its bytes.
+pub fn bytes_at<'a>(directory: &[u32], bytes: &'a [u8], number: usize) -> &'a [u8]
+    ensures { λ r. ⌜ ((words : List ℕ) → now r ≡ pairAt number (now (directory .entry)) words (now (bytes .entry)) .bytes) ⌝ }
+{
+    let mut row = directory;
+    let mut b = bytes;
+    let mut n = number;
+    while 0 < n {
+        let next = next_bytes(row, b);
+        let behind = next_row(row);
+        b = next;
+        row = behind;
+        n -= 1;
+    }
+    b
 }
 
 // The token list of a side: 0 the pattern's, 1 the template's.

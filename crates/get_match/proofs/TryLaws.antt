@@ -1,7 +1,7 @@
 -- What is known of the pattern's root and of the node asked for, and what is right for `try_match`.
 -- Assumes nothing.
 use mathlib.Core.Path.{_≡_, refl, sym, ap, _∙_}
-use mathlib.Core.Bool.{Bool, true, false, not, _&&_, _||_, false≢true}
+use mathlib.Core.Bool.{Bool, true, false, not, _&&_, _||_, true≢false, false≢true}
 use mathlib.Core.List.{List}
 use Prim.Native.Nat.{ℕ, _+_, _*_, _≤_, _<_}
 use native.Mathlib.Omega.{arith}
@@ -15,7 +15,7 @@ use Rattle.syntax.proofs.TreeLaws.{elems-end}
 use Rattle.syntax.proofs.AccessorLaws.{node-none}
 use Rattle.syntax.proofs.Places.{tree-size, tree-none}
 use Rattle.paths.specs.Steps.{Side}
-use Rattle.captures.specs.Attempts.{Attempt, andThen, given}
+use Rattle.captures.specs.Attempts.{Attempt, failed, andThen, given}
 use Rattle.captures.specs.Effects.{nothing, noMatch, Gives}
 use Rattle.captures.specs.declared.State.{State}
 use Rattle.captures.specs.declared.Answer.{Answer}
@@ -24,6 +24,7 @@ use Rattle.matcher.specs.Matcher.{Matcher}
 use Rattle.matching.specs.Matching.{matchNode, NodeGives}
 use Rattle.matching.proofs.StepLaws.{same-gives}
 use Rattle.matching.proofs.GiveLaws.{gives-no, first-fails, test-fails, test-holds}
+use Rattle.first_phase.specs.FirstPhase.{NodeFails}
 use Rattle.get_match.specs.declared.Asked.{Asked}
 use Rattle.get_match.specs.Templates.{renders}
 use Rattle.get_match.specs.GetMatch.{isWithin, tryMatch}
@@ -36,7 +37,7 @@ root-long l w =
     let q = and-both (sameText (words (tree l)) l) (covers (w .bytes) (tree l)) (p .0) in
     low-or (length l) 3 (λ s. absurd (false≢true (rw (elems-end 0 l s) at (q .1)))) (λ s. s)
 
-node-itself : (low high : ℕ) (c : Elems) → nodeIn low high (byItself c) ≡ nodeIn low high c
+pub node-itself : (low high : ℕ) (c : Elems) → nodeIn low high (byItself c) ≡ nodeIn low high c
 node-itself low high none = refl
 node-itself low high (token i k s e r) = refl
 node-itself low high (node i k s e cs r) = refl
@@ -65,9 +66,16 @@ abbrev tried : ℕ → Matcher → List ℕ → List ℕ → Asked → List ℕ 
 tried n x p l asked facts side root = tryMatch n x (tree p) (asked .range) (nodeAsked asked l) (canRender asked facts side root)
 
 module _ (x : Matcher) (p l facts c : List ℕ) (asked : Asked) (at : elems (asked .node) c ≡ nodeAsked asked l) (out : List ℕ) (side : Side) (root : Elems) (n : ℕ) where
-  -- outside the range
-  pub try-outside : (r : Answer) → isWithin (asked .range) (elems (asked .node) c) ≡ false → r ≡ noMatch → Gives (tried n x p l asked facts side root) nothing out r out
-  try-outside r o f = gives-no (rw (← at, o) (given-false _)) f refl
+  refused-by : (v w : Bool) → w ≡ isWithin (asked .range) (elems (asked .node) c) → (v && w) ≡ false → (v ≡ false → NodeFails x (tree p) (elems (asked .node) c))
+      → tried n x p l asked facts side root ≡ failed
+  refused-by v false is h f = rw (← at, ← is) (given-false _)
+  refused-by true true is h f = absurd (true≢false h)
+  refused-by false true is h f = rw (← at, ← is) (given-true _ ∙ rw (f refl n) (given-false _))
+
+  -- outside the range, or the first phase says so
+  pub try-refused : (r : Answer) (v w : Bool) → w ≡ isWithin (asked .range) (elems (asked .node) c) → (v && w) ≡ false
+      → (v ≡ false → NodeFails x (tree p) (elems (asked .node) c)) → r ≡ noMatch → Gives (tried n x p l asked facts side root) nothing out r out
+  try-refused r v w is h f e = gives-no (refused-by v w is h f) e refl
 
   module _ (s : State) (r : Answer) (out′ : List ℕ) (inside : isWithin (asked .range) (elems (asked .node) c) ≡ true) (short : length c ≤ length l) (starts : s ≡ nothing)
       (g : NodeGives x 0 p (asked .node) c s out r out′) (enough : 5 * (length p + length l) + 2 < n) where

@@ -2,6 +2,7 @@
 pub mod templates; // templates.rt: whether the template's paths can be rendered for a module
 
 use captures::Answer;
+use first_phase::checking;
 use matcher::marks::Context;
 use matching::attempt_match;
 use syntax::accessors;
@@ -73,7 +74,8 @@ pub fn get_match(
     let node = asked.node;
     let range = asked.range;
     let c = accessors::element(words, node);
-    if is_within(range, c) {
+    let may = checking::may_match(p, c, rule, file, marks, facts, index, node, cx);
+    if may & is_within(range, c) {
         let s = captures::start();
         let r = attempt_match::node(
             p,

@@ -180,19 +180,10 @@ pub fn match_pair(
     ensures { λ _. ⌜ length (now (out .exit)) ≡ length (now (out .entry)) ⌝ }
     ensures { λ r. ⌜ Gives (ruleMatch (pairAt (rule .pair) (now (directory .entry)) (now (words .entry)) (now (bytes .entry))) rule (fileOf (now (tree .entry)) (now (text .entry)) (now (facts .entry))) (question .range) (question .node)) nothing (now (out .entry)) r (now (out .exit)) ⌝ }
 {
-    let mut row = directory;
-    let mut w = words;
-    let mut b = bytes;
-    let mut n = rule.pair;
-    while 0 < n {
-        let next_words = pairs::next_words(row, w);
-        let next_bytes = pairs::next_bytes(row, b);
-        let next_row = pairs::next_row(row);
-        w = next_words;
-        b = next_bytes;
-        row = next_row;
-        n -= 1;
-    }
+    let n = rule.pair;
+    let row = pairs::row_at(directory, n);
+    let w = pairs::words_at(directory, words, n);
+    let b = pairs::bytes_at(directory, bytes, n);
     match_rule(
         row,
         w,

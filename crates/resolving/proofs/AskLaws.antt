@@ -16,6 +16,7 @@ use Rattle.words.proofs.TestLaws.{or-neither, low-or}
 use Rattle.syntax.specs.Trees.{tree}
 use Rattle.syntax.specs.Accessors.{hasElement}
 use Rattle.fragments.specs.Directory.{counted, rowCount}
+use Rattle.fragments.proofs.PairLaws.{pair-here, pair-suc}
 use Rattle.fragments.specs.Pairs.{Pair, pairOf, pairsOf, pairs, pairAt, treeOf, factsOf, five}
 use Rattle.rules.specs.declared.numbering.Rule.{Rule}
 use Rattle.rules.specs.declared.numbering.Found.{Found}
@@ -71,19 +72,6 @@ module _ (p : Pair) (r : Rule) (l : Left p r) where
 
   pub template-good : templateFails p (r .form) (r .template) ≡ false
   template-good = rw (l .tree) (or-neither (templateFails p (r .form) (templateTree p (r .form))) (treeFails p 0 (r .form)) rule-good .0)
-
--- the pair of a number
-pub pair-here : (d w b : List ℕ) → pairAt 0 d w b ≡ pairOf d w b
-unfolding pairAt
-pair-here d w b = refl
-
-pair-suc : (n : ℕ) (d w b : List ℕ) → pairAt (suc n) d w b ≡ pairAt n (drop 27 d) (drop (counted true d) w) (drop (counted false d) b)
-unfolding pairAt
-pair-suc n d w b = refl
-
-pub pair-next : (n : ℕ) (d w b : List ℕ) → 0 < n → pairAt n d w b ≡ pairAt (n - 1) (drop 27 d) (drop (counted true d) w) (drop (counted false d) b)
-pair-next zero d w b h = absurd (omega arith)
-pair-next (suc n) d w b h = let e : suc n - 1 ≡ n = omega arith in pair-suc n d w b ∙ rw e
 
 -- what holds of all pairs holds of the pair of a number
 pub stage-at : (stage : Stage) (m n j : ℕ) (d w b : List ℕ) → stageOutcome stage m (pairsOf n d w b) ≡ Accepted → j < n → pairStage stage m (pairAt j d w b) ≡ Accepted

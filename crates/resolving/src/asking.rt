@@ -197,18 +197,9 @@ pub fn ask_pair(
     requires { ⌜ Passed (pairAt (rule .pair) (now directory) (now words) (now bytes)) × AllRoomy (now words) (now index) (now spare) (now paths) (now calls) ⌝ }
     ensures { λ r. ⌜ r ≡ inRule (pairAt (rule .pair) (now (directory .entry)) (now (words .entry)) (now (bytes .entry))) rule side element ⌝ }
 {
-    let mut row = directory;
-    let mut w = words;
-    let mut b = bytes;
-    let mut n = rule.pair;
-    while 0 < n {
-        let next_words = pairs::next_words(row, w);
-        let next_bytes = pairs::next_bytes(row, b);
-        let next_row = pairs::next_row(row);
-        w = next_words;
-        b = next_bytes;
-        row = next_row;
-        n -= 1;
-    }
+    let n = rule.pair;
+    let row = pairs::row_at(directory, n);
+    let w = pairs::words_at(directory, words, n);
+    let b = pairs::bytes_at(directory, bytes, n);
     ask_rule(row, w, b, rule, side, element, index, spare, paths, calls)
 }

@@ -6,7 +6,7 @@ use mathlib.Core.List.{List}
 use Prim.Native.Nat.{ℕ, _+_, _-_, _*_, _≤_, _<_}
 use native.Mathlib.Omega.{arith}
 use lib.ListN.{length, take, drop, length-take, length-drop}
-use lib.Seq.{drop-drop}
+use lib.Seq.{drop-drop, take-all}
 use Rattle.words.specs.Fields.{isToken, sizeOf}
 use Rattle.syntax.specs.Parts.{span, childWords, restWords}
 
@@ -54,3 +54,11 @@ pub rest-further : (l w : List ℕ) (at n : ℕ) → l ≡ drop (at * 3) w → n
 rest-further l w at n e h =
     let q : at * 3 + span l * 3 ≡ (at + n) * 3 = omega arith in
     ap (λ (x : List ℕ). drop (span l * 3) x) e ∙ drop-drop (span l * 3) (at * 3) w ∙ ap (λ (k : ℕ). drop k w) q
+
+-- a part up to the end is what is left
+pub slice-end : (l : List ℕ) (n : ℕ) → take (length l - n) (drop n l) ≡ drop n l
+slice-end l n = take-all (length l - n) (drop n l) (omega (arith, length-drop n l))
+
+-- what follows a token is three words behind
+pub rest-token : (l : List ℕ) → isToken l ≡ true → take (length l - 3) (drop 3 l) ≡ restWords l
+rest-token l t = rw t (slice-end l 3)

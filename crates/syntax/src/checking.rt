@@ -13,21 +13,31 @@ ghost use Rattle.syntax.specs.Rows.{inRow, isRanged, isTokenPart, isNode
 ghost use Rattle.syntax.specs.Checks.{treeOutcome};
 
 // Whether siblings follow each other from one byte to another and use up the part.
+// A token is passed without a look at its size, so that the next element need not wait for it.
 fn are_in_row(part: &[u32], from: usize, to: usize) -> bool
     ensures { λ r. ⌜ r ≡ inRow (now (part .entry)) from to ⌝ }
 {
     let mut c = part;
     let mut at = from;
-    while 0 < c.len() {
-        if (parts::span_of(c) * 3 <= c.len()) & (fields::start(c) == at) {
+    while 3 <= c.len() {
+        if fields::start(c) == at {
             at = fields::end(c);
-            let d = parts::rest(c);
-            c = d;
+            if fields::is_token(c) {
+                let d = &c[3..];
+                c = d;
+            } else {
+                let n = parts::span_of(c) * 3;
+                if c.len() < n {
+                    return false;
+                }
+                let d = &c[n..];
+                c = d;
+            }
         } else {
             return false;
         }
     }
-    at == to
+    (c.len() == 0) & (at == to)
 }
 
 // Whether the words of a range have their kinds.
@@ -97,16 +107,16 @@ fn is_element(c: &[u32]) -> bool
 fn are_elements(words: &[u32]) -> bool
     ensures { λ r. ⌜ r ≡ every (now (words .entry)) ⌝ }
 {
-    let mut i = 0;
-    while i < words.len() {
-        let c = fields::tail(words, i);
+    let mut c = words;
+    while 3 <= c.len() {
         if is_element(c) {
-            i += 3;
+            let d = &c[3..];
+            c = d;
         } else {
             return false;
         }
     }
-    true
+    c.len() == 0
 }
 
 // Whether the first element is a node, holds all others and covers a text.
@@ -132,7 +142,7 @@ fn is_tree(words: &[u32], bytes: usize) -> bool
 }
 
 // Whether no element of a part is deeper than a number of levels. An element with no more below it than that is not looked into, and the
-// stack grows with the levels alone.
+// stack grows with the levels alone. Tokens are passed as in are_in_row.
 fn is_shallow(part: &[u32], levels: usize) -> bool
     ensures { λ r. ⌜ ((i : ℕ) → r ≡ leb (depth (elems i (now (part .entry)))) levels) ⌝ }
 {
@@ -149,8 +159,13 @@ fn is_shallow(part: &[u32], levels: usize) -> bool
                 return false;
             }
         } else {
-            let d = parts::rest(c);
-            c = d;
+            if fields::is_token(c) {
+                let d = &c[3..];
+                c = d;
+            } else {
+                let d = parts::rest(c);
+                c = d;
+            }
         }
     }
     true

@@ -5,8 +5,9 @@ use std::fmt::Debug;
 
 use input::{Answer, Operation, Outcome, TokenList, pairs};
 use judge::judge;
+use library::lists::{RawCode, check_pair, raw_code, read_tokens};
 
-use crate::library::{self, ReadTokens};
+use crate::judged::{self, BEFORE};
 
 /// What is compared, one name for each operation that the library has.
 const NAMES: [&str; 3] = ["lists", "pairs", "raw codes"];
@@ -25,17 +26,23 @@ fn place(operation: &Operation) -> Option<usize> {
 fn difference(operation: &Operation, outcome: &Outcome) -> Result<(), String> {
     match operation {
         Operation::ReadTokens { list } => {
-            same(Some(library::read_tokens(list)), ReadTokens::of(&outcome.answer))
+            same(Some(read_tokens(list)), judged::lists::read_tokens(&outcome.answer))
         }
         Operation::CheckPair { pattern, template } => same(
-            Some(library::check_pair(pattern, template.as_ref())),
-            library::judged_pair(&outcome.answer),
+            Some(check_pair(pattern, template.as_ref())),
+            judged::lists::check_pair(&outcome.answer),
         ),
         Operation::RawCode { list, buffer } => {
-            same(Some(library::raw_code(list, *buffer)), library::judged_raw_code(outcome, *buffer))
+            same(Some(written(list, *buffer)), judged::lists::raw_code(outcome, *buffer))
         }
         _ => Err("the library does not have the operation".into()),
     }
+}
+
+/// The library's raw code, and the whole buffer after the call; before it, no byte of the buffer is 0.
+fn written(list: &TokenList, buffer: usize) -> (RawCode, Vec<u8>) {
+    let mut out = vec![BEFORE; buffer];
+    (raw_code(list, &mut out), out)
 }
 
 pub fn same<T: PartialEq + Debug>(library: T, judged: T) -> Result<(), String> {

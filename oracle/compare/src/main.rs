@@ -3,17 +3,14 @@
 
 mod bench;
 mod comparison;
-mod library;
+mod judged;
 mod matching;
 mod matching_sample;
 mod plain;
 mod rules;
-mod rules_bench;
 mod rules_sample;
 mod sample;
 mod small_stack;
-mod timing;
-mod tree_bench;
 mod tree_sample;
 mod trees;
 
@@ -39,7 +36,7 @@ const USAGE: &str = "usage: compare corpus < CASES
        compare matching tiny STEP
        compare matching damaged SEED COUNT
        compare matching limits
-       compare bench
+       compare bench < CASES
        compare sample SEED COUNT";
 
 /// Cases whose lists are written into a buffer with bytes beyond its used part.
@@ -67,10 +64,7 @@ fn run(arguments: &[&str]) -> Result<bool, String> {
             Ok(matching::damaged(number(seed)?, number(count)?))
         }
         ["matching", "limits"] => Ok(matching::limits()),
-        ["bench"] => {
-            bench::run();
-            Ok(tree_bench::run() & rules_bench::run())
-        }
+        ["bench"] => bench::run(),
         ["sample", seed, count] => {
             let sample = sample::make(number(seed)?, number(count)? as usize)?;
             stdout().write_all(&sample).map_err(|error| error.to_string())?;

@@ -1,5 +1,6 @@
 //! Matching one node: the library asked for every node with every rule, and held against the judge.
 
+pub mod call;
 mod limits;
 pub mod questions;
 mod tally;
@@ -8,12 +9,14 @@ use corpus::case::{Case, CaseMatch};
 use generator::{Class, Rng, bent_matches, case, odd_matches, rule_vectors};
 use input::{File, Operation, Rules, pairs};
 use judge::predicates::of_rules;
+use library::matching::{Binding, MatchedNode};
 
 use crate::for_each_case;
-use crate::library::matching::{Binding, Call, MatchedNode};
+use crate::judged::matching::binding;
+use call::{Call, Given};
 pub use limits::limits;
 use questions::Plan;
-use tally::{Given, Named, Tally};
+use tally::{Named, Tally};
 
 /// About the most elements of a generated pattern.
 const MOST: usize = 36;
@@ -103,7 +106,7 @@ fn is_real((known, (call, (answer, out))): (&CaseMatch, &(Call, Given))) -> bool
 }
 
 fn has_bindings(answer: &MatchedNode, known: &CaseMatch) -> bool {
-    let wanted = known.bindings.iter().copied().map(Binding::of);
+    let wanted = known.bindings.iter().copied().map(binding);
     let unbound = std::iter::repeat(Binding::default());
     wanted.chain(unbound).take(answer.bindings.len()).eq(answer.bindings)
 }

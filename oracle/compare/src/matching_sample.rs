@@ -1,5 +1,5 @@
 //! Records of matching one node for the sample: each refusal, each way that matching goes, each number
-//! of bound placeholders.
+//! of bound placeholders, receivers with stars and self kinds.
 //!
 //! The layout of such a record, as crates/replay's src/records.rt says what a record is: operation 8,
 //! and fifteen parts in the order of the parameters of `ssr_match_node`. Numbers and words are four
@@ -24,10 +24,12 @@ use std::collections::BTreeMap;
 use checker::{WAYS, Way};
 use generator::bent_matches::bend_copy;
 use generator::{Rng, odd_matches, rule_vectors};
-use input::{Answer, File, Rules};
+use input::{Answer, Binding, File, Rules};
 use judge::{Backing, whole_matches};
+use library::matching::MatchedNode;
 
-use crate::library::matching::{Call, MatchedNode, judged_match};
+use crate::judged;
+use crate::matching::call::Call;
 use crate::matching::questions::{Asked, Plan, all_pairs, nothing_such, of_pairs};
 use crate::sample::{bytes, record, trimmed, words};
 
@@ -70,6 +72,9 @@ enum Reason {
     /// So many placeholders are bound.
     Bound(usize),
     Noted,
+    /// A placeholder took a receiver: dereferenced, or by a function with such a self kind.
+    Starred,
+    TakenBy(u32),
     /// A way that a match goes, and one that ends without a match, by its place in `WAYS`.
     Matched(usize),
     Failed(usize),
@@ -84,9 +89,17 @@ impl Reason {
             Reason::Refused(_) => 1,
             Reason::Bound(_) => 4,
             Reason::Noted => 8,
+            Reason::Starred | Reason::TakenBy(_) => 4,
             Reason::Matched(_) => 4,
             Reason::Failed(_) => 2,
         }
+    }
+
+    /// What a binding has beside its bytes.
+    fn of_binding(binding: &Binding) -> impl Iterator<Item = Reason> {
+        let starred = (binding.stars > 0).then_some(Reason::Starred);
+        let taken = (binding.self_kind > 0).then_some(Reason::TakenBy(binding.self_kind));
+        starred.into_iter().chain(taken)
     }
 
     fn all_of(asked: &Asked) -> Vec<Reason> {
@@ -100,6 +113,7 @@ impl Reason {
                 let mut reasons = ways(Reason::Matched);
                 reasons.push(Reason::Bound(bindings.iter().flatten().count()));
                 reasons.extend((comments > 0).then_some(Reason::Noted));
+                reasons.extend(bindings.iter().flatten().flat_map(Reason::of_binding));
                 reasons
             }
             _ => ways(Reason::Failed),
@@ -179,7 +193,8 @@ impl Choice {
         let bound = (0..=4).map(Reason::Bound);
         let has_room = |place: &usize| WAYS[*place].0 != Way::FourDeep;
         let ways = (0..WAYS.len()).filter(has_room).map(Reason::Matched);
-        let mut missing = numbers.chain(bound).chain(ways).chain([Reason::Noted]);
+        let receivers = [Reason::Starred, Reason::TakenBy(1), Reason::TakenBy(2)];
+        let mut missing = numbers.chain(bound).chain(ways).chain([Reason::Noted]).chain(receivers);
         match missing.find(|reason| !self.met.contains_key(reason)) {
             Some(reason) if self.times > 0 => Err(format!("{reason:?} is missing")),
             _ => Ok(self.sample),
@@ -206,8 +221,8 @@ fn match_record(rules: &Rules, file: &File, asked: Asked) -> Result<Vec<u8>, Str
     if let Backing::Other(what) = judged.backing {
         return Err(format!("not judged: {what}"));
     }
-    let (answer, out) =
-        judged_match(judged.outcome, call.buffer).ok_or("no answer of matching one node")?;
+    let (answer, out) = judged::matching::match_node(judged.outcome, call.buffer)
+        .ok_or("no answer of matching one node")?;
     let [directory, rule_words] = [&rules.directory, &rules.words].map(|part| words(part));
     let [tree, facts] = [&file.tree, &file.facts].map(|part| words(part));
     let number = |number: usize| bytes([number as u32]);

@@ -10,9 +10,10 @@ use generator::{odd_rules, rule_vectors};
 use input::{Answer, Rules, pairs};
 use judge::predicates::{Difference, of_rules};
 use judge::{Backing, Sides, WholeRules};
+use library::rules::{build_rules, resolve};
 
 use crate::for_each_case;
-use crate::library::rules::{build_rules, resolve};
+use crate::judged::rules::{built_answer, resolved_answer};
 use crate::small_stack::{OF_RESOLVING, OF_TREES, on_stack};
 use tally::Tally;
 pub use tally::sort;
@@ -65,10 +66,10 @@ impl Operation {
         let Question { rule, side, element } = question;
         match self {
             Operation::Building => {
-                build_rules(rules, rule).answer().map_err(|all| format!("{all:?}"))
+                built_answer(build_rules(rules, rule)).map_err(|all| format!("{all:?}"))
             }
             Operation::Resolving => {
-                let answer = resolve(rules, rule, side, element).answer();
+                let answer = resolved_answer(resolve(rules, rule, side, element));
                 answer.map_err(|all| format!("{all:?}"))
             }
         }

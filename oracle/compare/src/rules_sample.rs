@@ -8,8 +8,9 @@ use generator::odd_rules;
 use generator::rule_vectors::{self, Vector};
 use input::{Answer, Rules};
 use judge::{WholeRules, whole_rules};
+use library::rules::BuiltRules;
 
-use crate::library::rules::{BuiltRules, ResolvedElement};
+use crate::judged::rules::{built_rules, resolved_element};
 use crate::rules::{OPERATIONS, Operation, Question, sort};
 use crate::sample::{bytes, record, trimmed, words};
 
@@ -171,12 +172,11 @@ fn rules_record(
 fn answer_bytes(operation: Operation, answer: &Answer) -> Option<Vec<u8>> {
     let fields = match operation {
         Operation::Building => {
-            let BuiltRules { refusal, rules, found, pair, form, template } =
-                BuiltRules::of(answer)?;
+            let BuiltRules { refusal, rules, found, pair, form, template } = built_rules(answer)?;
             vec![refusal, rules as u32, found, pair as u32, form as u32, template]
         }
         Operation::Resolving => {
-            let of = ResolvedElement::of(answer)?;
+            let of = resolved_element(answer)?;
             let path = [of.refusal, of.found, of.resolved, of.resolution];
             let call = [of.call, of.function, of.typed, of.qualifier_type, of.contains_self];
             [&path[..], &call].concat()

@@ -8,7 +8,7 @@ use input::{Answer, Operation, TokenList};
 use judge::judge;
 
 use crate::comparison::with_lists;
-use crate::library::{ReadTokens, judged_pair, judged_raw_code};
+use crate::judged;
 use crate::matching_sample;
 use crate::rules_sample;
 use crate::tree_sample;
@@ -52,7 +52,8 @@ pub fn make(seed: u64, count: usize) -> Result<Vec<u8>, String> {
 fn check_pair(pattern: &TokenList, template: Option<&TokenList>) -> Result<Vec<u8>, String> {
     let operation = Operation::CheckPair { pattern: pattern.clone(), template: template.cloned() };
     let outcome = judge(&operation).outcome.ok_or("a pair was not judged")?;
-    let number = judged_pair(&outcome.answer).ok_or("no answer of checking a pair")?;
+    let number =
+        judged::lists::check_pair(&outcome.answer).ok_or("no answer of checking a pair")?;
     let none = TokenList::default();
     let other = template.unwrap_or(&none);
     let parts = [
@@ -69,7 +70,7 @@ fn check_pair(pattern: &TokenList, template: Option<&TokenList>) -> Result<Vec<u
 fn raw_code(list: &TokenList, buffer: usize) -> Result<Vec<u8>, String> {
     let operation = Operation::RawCode { list: list.clone(), buffer };
     let outcome = judge(&operation).outcome.ok_or("a raw code was not judged")?;
-    let (answer, out) = judged_raw_code(&outcome, buffer).ok_or("no answer of raw code")?;
+    let (answer, out) = judged::lists::raw_code(&outcome, buffer).ok_or("no answer of raw code")?;
     let answer = bytes([answer.refusal, answer.length as u32]);
     let parts =
         [&list_words(list), &list.text, &bytes([buffer as u32]), &trimmed(out), &trimmed(answer)];
@@ -108,7 +109,7 @@ pub fn trimmed(mut answer: Vec<u8>) -> Vec<u8> {
 }
 
 fn read_tokens(list: &TokenList) -> Result<Vec<u8>, String> {
-    let read = ReadTokens::of(&judged(list)?).ok_or("an answer does not fit")?;
+    let read = judged::lists::read_tokens(&judged(list)?).ok_or("an answer does not fit")?;
     let mut words = vec![read.refusal, read.count as u32];
     for place in read.placeholders {
         words.extend([place.start, place.end, place.constraints].map(|number| number as u32));

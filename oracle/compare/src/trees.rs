@@ -9,8 +9,8 @@ use generator::tree_limits::{self, Limit};
 use generator::trees;
 use input::TreeCheck;
 
+use crate::for_each_case;
 use crate::small_stack::{OF_TREES, on_stack};
-use crate::{for_each_case, library};
 
 /// Damaged copies of one tree.
 const COPIES: u64 = 16;
@@ -50,7 +50,7 @@ struct Tally {
 impl Tally {
     /// Compares the numbers of a tree: the checker's.
     fn add(&mut self, name: &'static str, check: &TreeCheck) -> u32 {
-        let (wanted, found) = (check_tree(check), library::check_tree(check));
+        let (wanted, found) = (check_tree(check), library::trees::check_tree(check));
         self.rows.entry(name).or_default().counts[column(wanted)] += 1;
         if wanted != found {
             self.different += 1;
@@ -119,7 +119,7 @@ pub fn damaged(seed: u64, count: u64) -> bool {
 /// Every tree at a limit has the expected number, in the library on a small stack.
 fn limits() -> bool {
     let limits = tree_limits::all();
-    let number = |(_, check, _): &Limit| library::check_tree(check);
+    let number = |(_, check, _): &Limit| library::trees::check_tree(check);
     let numbers: Vec<u32> = on_stack(OF_TREES, || limits.iter().map(number).collect());
     let mut different = 0;
     for ((name, check, wanted), found) in limits.iter().zip(numbers) {

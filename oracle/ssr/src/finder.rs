@@ -12,7 +12,7 @@ use crate::feed::{FedPair, Workspace, parse_table};
 use crate::matching::{self, PlaceholderMatch};
 use crate::parsing::{ParsedRule, Var};
 use crate::resolving::{ResolutionScope, ResolvedPattern, ResolvedRule};
-use crate::run::{Ended, run};
+use crate::run::{Ended, run, run_for};
 use crate::{
     Match, MissingParse, NotFed, Rendered, Rendering, ResolvedRuleSides, ResolvedSide, SsrMatches,
     Stopped, fragments, nester, reading, replacing,
@@ -58,6 +58,12 @@ pub struct Finder<'db> {
     built: Vec<BuiltRule>,
     /// For each rule the names of its placeholders in pattern order.
     names: Vec<Vec<String>>,
+}
+
+/// Nodes of the file, collected to be tried with rules. This is for timing.
+pub struct Tries<'a, 'db> {
+    finder: &'a Finder<'db>,
+    nodes: Vec<SyntaxNode>,
 }
 
 /// Accepted candidates, in the order of asking.
@@ -118,6 +124,12 @@ impl<'db> Finder<'db> {
         Ok(found.map(|found| self.matched_words(&found)))
     }
 
+    /// Whether the crate matches one node with a rule, in no range. Its answer in words needs the names
+    /// of placeholders, this does not.
+    pub fn is_match(&self, node: u32, rule: u32) -> Result<bool, Stopped> {
+        Ok(self.candidate(node, rule, None)?.is_some())
+    }
+
     /// The candidates (node, rule) that the crate accepts.
     pub fn find(
         &self,
@@ -138,6 +150,14 @@ impl<'db> Finder<'db> {
         let nodes = file.root().descendants().map(|node| node.element());
         let rules = self.rules.len() as u32;
         self.find(nodes.flat_map(|node| (0..rules).map(move |rule| (node, rule))), range)
+    }
+
+    /// Some nodes of the file, for [`Tries::count_matches`].
+    pub fn tries(&self, nodes: impl IntoIterator<Item = u32>) -> Result<Tries<'_, 'db>, Stopped> {
+        let file = self.workspace.file.as_ref().ok_or(NotFed::NoSuchNodeOrRule)?;
+        let node = |element| file.node(element).ok_or(NotFed::NoSuchNodeOrRule);
+        let nodes: Result<_, NotFed> = nodes.into_iter().map(node).collect();
+        Ok(Tries { finder: self, nodes: nodes? })
     }
 
     fn candidate(
@@ -232,6 +252,24 @@ impl<'db> Finder<'db> {
             Err(Ended::TooLong) => return Err(NotFed::TooLong.into()),
         };
         Ok(Rendered { rendering, asked })
+    }
+}
+
+impl Tries<'_, '_> {
+    /// How many nodes there are.
+    pub fn nodes(&self) -> usize {
+        self.nodes.len()
+    }
+
+    /// How many nodes the crate matches with a rule, `rounds` times over. All tries are one run of any
+    /// number of steps, so that nothing but the crate's own work is done for a node.
+    pub fn count_matches(&self, rule: usize, rounds: u32) -> Result<usize, Stopped> {
+        let Finder { sema, rules, .. } = self.finder;
+        let rule = rules.get(rule).ok_or(NotFed::NoSuchNodeOrRule)?;
+        let is_match =
+            |node: &&SyntaxNode| matching::get_match(false, rule, node, &None, sema).is_ok();
+        let matches = |_| self.nodes.iter().filter(is_match).count();
+        Ok(run_for(u64::MAX, || (0..rounds).map(matches).sum())?)
     }
 }
 

@@ -50,8 +50,13 @@ pub fn on_large_stack<T: Send>(work: impl FnOnce() -> T + Send) -> T {
 }
 
 pub(crate) fn run<T>(crate_code: impl FnOnce() -> T) -> Result<T, Ended> {
+    run_for(STEPS, crate_code)
+}
+
+/// A run that may look at the children of so many nodes.
+pub(crate) fn run_for<T>(steps: u64, crate_code: impl FnOnce() -> T) -> Result<T, Ended> {
     silence();
-    steps::allow(STEPS);
+    steps::allow(steps);
     QUIET.with(|quiet| quiet.set(true));
     let result = catch_unwind(AssertUnwindSafe(crate_code));
     QUIET.with(|quiet| quiet.set(false));

@@ -4,7 +4,7 @@ use generator::Rng;
 use input::{Answer, used};
 use judge::{JudgedMatch, MatchQuestion, WholeMatches};
 
-use crate::library::matching::Call;
+use super::call::Call;
 use crate::rules::NO_NUMBER;
 
 /// One pair of so many is asked once more though it does not match, and one of so many with a buffer

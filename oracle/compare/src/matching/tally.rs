@@ -7,8 +7,9 @@ use generator::Rng;
 use input::{Answer, File, Operation, Rules, case_file};
 use judge::{Backing, whole_matches};
 
+use super::call::{Call, Given};
 use super::questions::{Asked, Plan, all_pairs, nothing_such, of_pairs};
-use crate::library::matching::{Call, MatchedNode, judged_match, match_node};
+use crate::judged;
 use crate::small_stack::{OF_MATCHING, on_stack};
 
 /// The numbers of matching one node, in their order.
@@ -17,9 +18,6 @@ pub const NUMBERS: [u32; 23] =
 
 /// About how many pairs are asked at once.
 const CHUNK: usize = 4_096;
-
-/// What the library answers and leaves in the buffer.
-pub type Given = (MatchedNode, Vec<u8>);
 
 /// Rules and a file with a name.
 pub struct Named<'a> {
@@ -85,9 +83,8 @@ impl Tally {
     fn ask(&mut self, case: &Named, asked: Vec<Asked>) -> Vec<Given> {
         let Named { rules, file, .. } = case;
         let calls: Vec<Call> = asked.iter().map(|asked| asked.call).collect();
-        let given: Vec<Given> = on_stack(OF_MATCHING, || {
-            calls.iter().map(|call| match_node(rules, file, call)).collect()
-        });
+        let given: Vec<Given> =
+            on_stack(OF_MATCHING, || calls.iter().map(|call| call.ask(rules, file)).collect());
         for ((asked, given), call) in asked.into_iter().zip(&given).zip(calls) {
             self.count(&asked);
             match self.compare(asked, given) {
@@ -138,7 +135,7 @@ impl Tally {
             Backing::Listed => self.listed += 1,
             Backing::Other(what) => return Err(format!("not judged: {what}")),
         }
-        let judged = judged_match(asked.judged.outcome, asked.call.buffer);
+        let judged = judged::matching::match_node(asked.judged.outcome, asked.call.buffer);
         let judged = judged.ok_or("no answer of matching")?;
         if *given == judged {
             return Ok(());

@@ -18,8 +18,10 @@
 
 use std::fmt;
 use std::marker::PhantomData;
+use std::rc::Rc;
 
 use syntax::SyntaxNode;
+use syntax::tree::Tree;
 
 use crate::{HirDatabase, Type};
 
@@ -228,26 +230,36 @@ impl Module {
         let (tree, element) = def.at()?;
         let tree = db.template_tree(tree)?;
         let [_, start, length] = tree.fact_at(7, element, self.number)?;
-        let text = tree.path_text(start, length)?.to_owned();
-        Some(ModPath { text, start, length })
+        Some(ModPath { tree: tree.clone(), start, length })
     }
 }
 
-/// A path text with its place in the fact text.
-#[derive(Clone, Debug)]
+/// A path text by its place in a tree's fact text.
+#[derive(Clone)]
 pub struct ModPath {
-    text: String,
+    tree: Rc<Tree>,
     start: u32,
     length: u32,
 }
 
 impl ModPath {
     pub fn display<DB: ?Sized>(&self, _db: &DB, _edition: parser::Edition) -> impl fmt::Display {
-        &self.text
+        self.text()
+    }
+
+    /// Decoding has looked whether the text is one.
+    fn text(&self) -> &str {
+        self.tree.path_text(self.start, self.length).unwrap_or_default()
     }
 
     /// Start and length in the fact text.
     pub fn place(&self) -> (u32, u32) {
         (self.start, self.length)
+    }
+}
+
+impl fmt::Debug for ModPath {
+    fn fmt(&self, f: &mut fmt::Formatter<'_>) -> fmt::Result {
+        fmt::Debug::fmt(self.text(), f)
     }
 }

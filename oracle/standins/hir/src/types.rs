@@ -2,42 +2,48 @@
 
 use std::fmt;
 use std::marker::PhantomData;
-use std::rc::Rc;
 
 use syntax::SyntaxNode;
 
 use crate::{AssocItem, SemanticsScope, VisibleTraits};
 
-/// A type and the types it dereferences to in turn.
+/// A type: the one that a qualifier names, or a step of an expression's type, whose later steps are
+/// looked up when they are asked for.
 #[derive(Clone, Debug)]
 pub struct Type<'db> {
-    steps: Rc<[u32]>,
-    at: usize,
+    number: u32,
+    step: Option<(SyntaxNode, u32)>,
     db: PhantomData<&'db ()>,
 }
 
 impl<'db> Type<'db> {
     pub(crate) fn of_qualifier(number: u32) -> Type<'db> {
-        Type { steps: Rc::from([number]), at: 0, db: PhantomData }
+        Type { number, step: None, db: PhantomData }
     }
 
-    /// The steps at an expression of the file; none if step 0 is absent.
+    /// Step 0 at an expression of the file; none if it is absent.
     pub(crate) fn of_expr(expr: &SyntaxNode) -> Option<Type<'db>> {
-        let step = |at| expr.tree().fact_at(3, expr.element(), at);
-        let steps: Rc<[u32]> = (0..).map_while(step).map(|[_, ty, _]| ty).collect();
-        (!steps.is_empty()).then_some(Type { steps, at: 0, db: PhantomData })
+        Type::of_step(expr, 0)
+    }
+
+    fn of_step(expr: &SyntaxNode, step: u32) -> Option<Type<'db>> {
+        let [_, number, _] = expr.tree().fact_at(3, expr.element(), step)?;
+        Some(Type { number, step: Some((expr.clone(), step)), db: PhantomData })
     }
 
     pub fn number(&self) -> u32 {
-        self.steps[self.at]
+        self.number
     }
 
+    /// The type, and those that it dereferences to in turn.
     pub fn autoderef<DB: ?Sized>(
         &self,
         _db: &DB,
     ) -> impl Iterator<Item = Type<'db>> + use<'db, DB> {
-        let all = self.clone();
-        (self.at..self.steps.len()).map(move |at| Type { at, ..all.clone() })
+        std::iter::successors(Some(self.clone()), |ty| {
+            let (expr, step) = ty.step.as_ref()?;
+            Type::of_step(expr, step + 1)
+        })
     }
 
     /// Asks for a name on the type. No fact has candidates.

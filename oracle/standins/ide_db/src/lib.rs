@@ -1,20 +1,18 @@
 //! Stand-in for rust-analyzer's `ide_db`: hash maps, text edits and the database.
 
 pub mod base_db;
-mod hash;
 pub mod text_edit;
 
-use std::collections::HashMap;
 use std::rc::Rc;
 
 use syntax::tree::Tree;
 
-pub use hash::{FxHashMap, FxHashSet};
+pub use syntax::hash::{FxHashMap, FxHashSet};
 
 /// The database: the trees that path texts are looked up in. All else stands in the trees.
 #[derive(Default)]
 pub struct RootDatabase {
-    template_trees: HashMap<u32, Rc<Tree>>,
+    template_trees: FxHashMap<u32, Rc<Tree>>,
 }
 
 impl RootDatabase {

@@ -2,6 +2,7 @@
 //! which a token list was handed in.
 
 use std::cell::RefCell;
+use std::rc::Rc;
 
 use syntax::SyntaxKind;
 
@@ -18,16 +19,17 @@ impl Edition {
 pub type Tokens = Vec<(SyntaxKind, String)>;
 
 thread_local! {
-    static LISTS: RefCell<Vec<(&'static str, Tokens)>> = const { RefCell::new(Vec::new()) };
+    static LISTS: RefCell<Vec<(&'static str, Rc<Tokens>)>> = const { RefCell::new(Vec::new()) };
 }
 
 /// Hands in the lists that the next sources name.
 pub fn hand_in(lists: Vec<(&'static str, Tokens)>) {
+    let lists = lists.into_iter().map(|(name, tokens)| (name, Rc::new(tokens))).collect();
     LISTS.with(|handed| *handed.borrow_mut() = lists);
 }
 
 pub struct LexedStr {
-    tokens: Tokens,
+    tokens: Rc<Tokens>,
 }
 
 impl LexedStr {

@@ -24,15 +24,18 @@ macro_rules! node {
         }
 
         impl AstNode for $name {
+            #[inline]
             fn can_cast(kind: SyntaxKind) -> bool {
                 let test: fn(SyntaxKind) -> bool = $test;
                 test(kind)
             }
 
+            #[inline]
             fn cast(syntax: SyntaxNode) -> Option<$name> {
                 $name::can_cast(syntax.kind()).then_some($name { syntax })
             }
 
+            #[inline]
             fn syntax(&self) -> &SyntaxNode {
                 &self.syntax
             }
@@ -56,6 +59,7 @@ thread_local! {
     static ASKED_FOR: Cell<Option<SyntaxKind>> = const { Cell::new(None) };
 }
 
+#[inline]
 fn asked_for(kind: SyntaxKind) -> SyntaxKind {
     ASKED_FOR.with(|asked| asked.set(Some(kind)));
     kind
@@ -78,20 +82,24 @@ pub struct Path {
 }
 
 impl AstNode for Path {
+    #[inline]
     fn can_cast(kind: SyntaxKind) -> bool {
         kind == SyntaxKind::PATH
     }
 
+    #[inline]
     fn cast(syntax: SyntaxNode) -> Option<Path> {
         Path::can_cast(syntax.kind()).then_some(Path { syntax, qualifier_of: None })
     }
 
+    #[inline]
     fn syntax(&self) -> &SyntaxNode {
         &self.syntax
     }
 }
 
 impl Path {
+    #[inline]
     pub fn segment(&self) -> Option<PathSegment> {
         child(&self.syntax)
     }
@@ -121,6 +129,7 @@ impl PathSegment {
         Some(NameRef { first_token: name_ref.first_token() })
     }
 
+    #[inline]
     pub fn parenthesized_arg_list(&self) -> Option<ParenthesizedArgList> {
         child(&self.syntax)
     }
@@ -137,6 +146,7 @@ pub struct NameRef {
 }
 
 impl NameRef {
+    #[inline]
     pub fn text(&self) -> &str {
         self.first_token.as_ref().map_or("", SyntaxToken::text)
     }
@@ -160,12 +170,14 @@ impl HasArgList for CallExpr {}
 impl HasArgList for MethodCallExpr {}
 
 impl ArgList {
+    #[inline]
     pub fn args(&self) -> impl Iterator<Item = Expr> + use<> {
         self.syntax.children().filter_map(Expr::cast)
     }
 }
 
 impl MethodCallExpr {
+    #[inline]
     pub fn receiver(&self) -> Option<Expr> {
         child(&self.syntax)
     }

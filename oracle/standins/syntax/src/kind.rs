@@ -1,10 +1,10 @@
 //! Syntax kinds. Document 01 numbers nodes and tokens apart, so a kind says which of the two it is.
 
+/// The number, with `TOKEN` added for a token's.
 #[derive(Clone, Copy, Debug, PartialEq, Eq, Hash)]
-pub struct SyntaxKind {
-    is_node: bool,
-    number: u16,
-}
+pub struct SyntaxKind(u16);
+
+const TOKEN: u16 = 1 << 15;
 
 impl SyntaxKind {
     pub const IDENT: SyntaxKind = SyntaxKind::token(1);
@@ -42,19 +42,19 @@ impl SyntaxKind {
     pub const NAME: SyntaxKind = SyntaxKind::node(4101);
 
     pub const fn node(number: u16) -> SyntaxKind {
-        SyntaxKind { is_node: true, number }
+        SyntaxKind(number)
     }
 
     pub const fn token(number: u16) -> SyntaxKind {
-        SyntaxKind { is_node: false, number }
+        SyntaxKind(TOKEN | number)
     }
 
     pub fn is_node(self) -> bool {
-        self.is_node
+        self.0 & TOKEN == 0
     }
 
     pub fn number(self) -> u32 {
-        u32::from(self.number)
+        u32::from(self.0 & !TOKEN)
     }
 
     pub fn is_trivia(self) -> bool {
@@ -62,11 +62,11 @@ impl SyntaxKind {
     }
 
     pub(crate) fn is_expr(self) -> bool {
-        self.is_node && (64..=1023).contains(&self.number)
+        (64..=1023).contains(&self.0)
     }
 
     pub(crate) fn is_item(self) -> bool {
-        self.is_node && (1024..=2047).contains(&self.number)
+        (1024..=2047).contains(&self.0)
     }
 }
 

@@ -2,6 +2,7 @@
 //! Only what the crate's files use is here, under the crate's names.
 
 pub mod ast;
+pub mod hash;
 mod kind;
 mod node;
 pub mod steps;

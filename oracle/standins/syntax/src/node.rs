@@ -4,7 +4,7 @@ use std::fmt;
 use std::hash::{Hash, Hasher};
 use std::rc::Rc;
 
-use crate::tree::Tree;
+use crate::tree::{Element, Tree};
 use crate::{SyntaxKind, TextRange, TextSize, steps};
 
 #[derive(Clone)]
@@ -33,9 +33,13 @@ pub struct SyntaxElementChildren {
     end: u32,
 }
 
-fn at(tree: &Rc<Tree>, element: u32) -> SyntaxElement {
+/// The child nodes of a node.
+struct SyntaxNodeChildren(SyntaxElementChildren);
+
+#[inline]
+fn at(tree: &Rc<Tree>, element: u32, kind: SyntaxKind) -> SyntaxElement {
     let tree = tree.clone();
-    if tree.element(element).kind.is_node() {
+    if kind.is_node() {
         SyntaxElement::Node(SyntaxNode { tree, element })
     } else {
         SyntaxElement::Token(SyntaxToken { tree, element })
@@ -47,27 +51,33 @@ impl SyntaxNode {
         SyntaxNode { tree, element }
     }
 
+    #[inline]
     pub fn tree(&self) -> &Rc<Tree> {
         &self.tree
     }
 
     /// The number of the element in its tree.
+    #[inline]
     pub fn element(&self) -> u32 {
         self.element
     }
 
+    #[inline]
     pub fn kind(&self) -> SyntaxKind {
         self.tree.element(self.element).kind
     }
 
+    #[inline]
     pub fn text_range(&self) -> TextRange {
         self.tree.element(self.element).range
     }
 
+    #[inline]
     pub fn text(&self) -> &str {
         self.tree.text_of(self.element)
     }
 
+    #[inline]
     pub fn parent(&self) -> Option<SyntaxNode> {
         let element = self.tree.element(self.element).parent?;
         Some(SyntaxNode { tree: self.tree.clone(), element })
@@ -78,16 +88,19 @@ impl SyntaxNode {
         std::iter::successors(Some(self.clone()), SyntaxNode::parent)
     }
 
+    #[inline]
     pub fn children_with_tokens(&self) -> SyntaxElementChildren {
         steps::take();
         let end = self.element + self.tree.element(self.element).size;
         SyntaxElementChildren { tree: self.tree.clone(), next: self.element + 1, end }
     }
 
+    #[inline]
     pub fn children(&self) -> impl Iterator<Item = SyntaxNode> + use<> {
-        self.children_with_tokens().filter_map(SyntaxElement::into_node)
+        SyntaxNodeChildren(self.children_with_tokens())
     }
 
+    #[inline]
     pub fn first_child_or_token(&self) -> Option<SyntaxElement> {
         self.children_with_tokens().next()
     }
@@ -105,7 +118,7 @@ impl SyntaxNode {
         steps::take();
         let tree = self.tree.clone();
         let end = self.element + tree.element(self.element).size;
-        (self.element..end).map(move |element| at(&tree, element))
+        (self.element..end).map(move |element| at(&tree, element, tree.element(element).kind))
     }
 
     pub fn descendants(&self) -> impl Iterator<Item = SyntaxNode> + use<> {
@@ -144,6 +157,7 @@ impl TokenAtOffset {
 }
 
 impl SyntaxToken {
+    #[inline]
     pub fn element(&self) -> u32 {
         self.element
     }
@@ -154,18 +168,22 @@ impl SyntaxToken {
         (!found.kind.is_node()).then(|| SyntaxToken { tree: tree.clone(), element })
     }
 
+    #[inline]
     pub fn kind(&self) -> SyntaxKind {
         self.tree.element(self.element).kind
     }
 
+    #[inline]
     pub fn text_range(&self) -> TextRange {
         self.tree.element(self.element).range
     }
 
+    #[inline]
     pub fn text(&self) -> &str {
         self.tree.text_of(self.element)
     }
 
+    #[inline]
     pub fn parent(&self) -> Option<SyntaxNode> {
         let element = self.tree.element(self.element).parent?;
         Some(SyntaxNode { tree: self.tree.clone(), element })
@@ -177,6 +195,7 @@ impl SyntaxToken {
 }
 
 impl SyntaxElement {
+    #[inline]
     pub fn kind(&self) -> SyntaxKind {
         match self {
             SyntaxElement::Node(node) => node.kind(),
@@ -184,6 +203,7 @@ impl SyntaxElement {
         }
     }
 
+    #[inline]
     pub fn text_range(&self) -> TextRange {
         match self {
             SyntaxElement::Node(node) => node.text_range(),
@@ -199,16 +219,41 @@ impl SyntaxElement {
     }
 }
 
-impl Iterator for SyntaxElementChildren {
-    type Item = SyntaxElement;
-
-    fn next(&mut self) -> Option<SyntaxElement> {
+impl SyntaxElementChildren {
+    /// Number and kind of the next child.
+    #[inline]
+    fn step(&mut self) -> Option<(u32, SyntaxKind)> {
         if self.next >= self.end {
             return None;
         }
-        let element = self.next;
-        self.next += self.tree.element(element).size;
-        Some(at(&self.tree, element))
+        let number = self.next;
+        let Element { kind, size, .. } = *self.tree.element(number);
+        self.next += size;
+        Some((number, kind))
+    }
+}
+
+impl Iterator for SyntaxElementChildren {
+    type Item = SyntaxElement;
+
+    #[inline]
+    fn next(&mut self) -> Option<SyntaxElement> {
+        let (number, kind) = self.step()?;
+        Some(at(&self.tree, number, kind))
+    }
+}
+
+impl Iterator for SyntaxNodeChildren {
+    type Item = SyntaxNode;
+
+    #[inline]
+    fn next(&mut self) -> Option<SyntaxNode> {
+        loop {
+            let (number, kind) = self.0.step()?;
+            if kind.is_node() {
+                return Some(SyntaxNode { tree: self.0.tree.clone(), element: number });
+            }
+        }
     }
 }
 
@@ -217,14 +262,16 @@ impl Iterator for SyntaxElementChildren {
 macro_rules! identity {
     ($name:ident) => {
         impl PartialEq for $name {
+            #[inline]
             fn eq(&self, other: &$name) -> bool {
-                self.element == other.element && self.tree.id() == other.tree.id()
+                self.element == other.element && Rc::ptr_eq(&self.tree, &other.tree)
             }
         }
 
         impl Eq for $name {}
 
         impl Hash for $name {
+            #[inline]
             fn hash<H: Hasher>(&self, state: &mut H) {
                 self.element.hash(state);
             }

@@ -16,9 +16,15 @@ pub fn allow(steps: u64) {
 }
 
 /// One step: the children of one node are about to be looked at.
+#[inline]
 pub(crate) fn take() {
     LEFT.with(|left| match left.get().checked_sub(1) {
         Some(rest) => left.set(rest),
-        None => std::panic::resume_unwind(Box::new(TooLong)),
+        None => stop(),
     });
+}
+
+#[cold]
+fn stop() -> ! {
+    std::panic::resume_unwind(Box::new(TooLong))
 }

@@ -1,11 +1,11 @@
 //! A decoded tree with its text and facts.
 
 use std::cell::Cell;
-use std::collections::HashMap;
 use std::rc::Rc;
 
 use input::words;
 
+use crate::hash::FxHashMap;
 use crate::{SyntaxKind, SyntaxNode, TextRange};
 
 /// Depth that document 01 allows (refusal 20); the root is at 1.
@@ -41,7 +41,7 @@ pub struct Tree {
     origin: Origin,
     text: String,
     pub(crate) elements: Vec<Element>,
-    facts: HashMap<Key, [u32; 3]>,
+    facts: FxHashMap<Key, [u32; 3]>,
     fact_text: Rc<[u8]>,
 }
 
@@ -52,8 +52,13 @@ pub(crate) struct Element {
     pub(crate) parent: Option<u32>,
 }
 
-/// Sort, element, and step (sort 3) or module (sort 7).
-type Key = (u32, u32, u32);
+/// Sort and element as in a fact's first word, and step (sort 3) or module (sort 7).
+type Key = (u32, u32);
+
+#[inline]
+fn key(sort: u32, element: u32, at: u32) -> Key {
+    (sort << 24 | element, at)
+}
 
 thread_local! {
     static NEXT_ID: Cell<u32> = const { Cell::new(0) };
@@ -98,14 +103,16 @@ impl Tree {
     }
 
     fn without_facts(origin: Origin, elements: Vec<Element>) -> Rc<Tree> {
-        let (facts, fact_text) = (HashMap::new(), Rc::from([]));
+        let (facts, fact_text) = (FxHashMap::default(), Rc::from([]));
         Rc::new(Tree { id: next_id(), origin, text: String::new(), elements, facts, fact_text })
     }
 
+    #[inline]
     pub fn id(&self) -> u32 {
         self.id
     }
 
+    #[inline]
     pub fn origin(&self) -> Origin {
         self.origin
     }
@@ -125,13 +132,15 @@ impl Tree {
     }
 
     /// The values of the fact of that sort at that element (any sort but 3 and 7).
+    #[inline]
     pub fn fact(&self, sort: u32, element: u32) -> Option<[u32; 3]> {
-        self.facts.get(&(sort, element, 0)).copied()
+        self.fact_at(sort, element, 0)
     }
 
     /// The values of the fact of sort 3 or 7 at that element with that step or module.
+    #[inline]
     pub fn fact_at(&self, sort: u32, element: u32, at: u32) -> Option<[u32; 3]> {
-        self.facts.get(&(sort, element, at)).copied()
+        self.facts.get(&key(sort, element, at)).copied()
     }
 
     /// A part of the fact text.
@@ -142,13 +151,18 @@ impl Tree {
 
     /// Every fact as sort, element and values, in no order.
     pub fn facts(&self) -> impl Iterator<Item = (u32, u32, [u32; 3])> {
-        self.facts.iter().map(|(key, values)| (key.0, key.1, *values))
+        let fact = |(key, values): (&Key, &[u32; 3])| {
+            (words::fact_sort(key.0), words::fact_element(key.0), *values)
+        };
+        self.facts.iter().map(fact)
     }
 
+    #[inline]
     pub(crate) fn element(&self, element: u32) -> &Element {
         &self.elements[element as usize]
     }
 
+    #[inline]
     pub(crate) fn text_of(&self, element: u32) -> &str {
         let range = self.element(element).range;
         &self.text[range.start().into()..range.end().into()]
@@ -211,8 +225,8 @@ fn decode_facts(
     facts: &[u32],
     elements: usize,
     fact_text: &[u8],
-) -> Result<HashMap<Key, [u32; 3]>, TreeError> {
-    let mut decoded = HashMap::new();
+) -> Result<FxHashMap<Key, [u32; 3]>, TreeError> {
+    let mut decoded = FxHashMap::with_capacity_and_hasher(facts.len() / 4, Default::default());
     for four in facts.chunks(4) {
         let &[head, a, b, c] = four else { return Err(TreeError::Malformed) };
         let (sort, element) = (words::fact_sort(head), words::fact_element(head));
@@ -225,7 +239,7 @@ fn decode_facts(
             std::str::from_utf8(part).map_err(|_| TreeError::Text)?;
         }
         let at = if matches!(sort, 3 | 7) { values[0] } else { 0 };
-        decoded.insert((sort, element, at), values);
+        decoded.insert(key(sort, element, at), values);
     }
     Ok(decoded)
 }

@@ -38,7 +38,7 @@ returns c =
       c₁ .key-number .ensures,
       indexed-take (now (a .facts)) (now (a .index)) (c₆ .pre),
     ) (indexed-find (now (a .facts)) (now (a .index)) (c₆ .pre) (a .sort) (a .element)
-    (a .select) (p .1) (p .2))
+    (a .select) (p .0) (p .2))
 
 returns-2 : tie.Need-returns-2
 returns-2 c =

@@ -4,11 +4,12 @@ use mathlib.Core.Path.{_≡_, sym, ap, _∙_}
 use mathlib.Core.Bool.{Bool, true, false}
 use denote.Ref.{now}
 use lib.Dec.{leb}
-use lib.ListN.{length}
+use lib.ListN.{length, length-take, length-drop}
+use borrow.Author.Needs.{needs}
 use native.Mathlib.Omega.{arith}
 use Rattle.syntax.specs.Parts.{span}
 use Rattle.syntax.specs.Trees.{depth, elems}
-use Rattle.syntax.proofs.PartLaws.{rest-shorter}
+use Rattle.syntax.proofs.PartLaws.{rest-shorter, rest-token}
 use Rattle.syntax.proofs.DepthLaws.{shallow-end, shallow-zero, shallow-next, shallow-few}
 use Prim.Native.Nat.{ℕ, _+_, _<_}
 use borrow.Fn.Kinds.{In}
@@ -19,6 +20,7 @@ use Rattle.syntax.proofs.checking.+is_shallow.Lts-is_shallow as is-shal
 use Rattle.syntax.proofs.parts.children.Reads as children-reads
 use Rattle.syntax.proofs.parts.rest.Reads as rest-reads
 use Rattle.syntax.proofs.parts.span_of.Reads as span-of-reads
+use Rattle.words.proofs.fields.is_token.Reads as is-token-reads
 use Rattle.syntax.proofs.checking.+is_shallow.{statement}
 use Rattle.syntax.proofs.checking.+is_shallow.Tie.{close}
 
@@ -35,7 +37,7 @@ is-shallow-below t =
 
 -- what it may take of each function that it calls, at the measure t
 abbrev is-shallow-claims : ℕ → is-shallow-lts.Claims
-is-shallow-claims t = (span-of-reads.Asked, span-of-reads.Learnt, children-reads.Asked, children-reads.Learnt, is-shallow-below t, is-shallow.Post, rest-reads.Asked, rest-reads.Learnt)
+is-shallow-claims t = (span-of-reads.Asked, span-of-reads.Learnt, children-reads.Asked, children-reads.Learnt, is-shallow-below t, is-shallow.Post, rest-reads.Asked, rest-reads.Learnt, is-token-reads.Asked, is-token-reads.Learnt)
 
 abbrev is-shallow-Inv-loop : is-shallow-lts.InvT-loop
 is-shallow-Inv-loop part levels c₀ c = (b : Bool) → ((j : ℕ) → b ≡ leb (depth (elems j c)) levels) → (i : ℕ) → b ≡ leb (depth (elems i part)) levels
@@ -73,14 +75,29 @@ is-shallow-loop-again t c = λ b f. c .before .before .before .before .before .b
 is-shallow-returns-2 : (t : ℕ) → is-shallow-lts.Need-returns-2 (is-shallow-claims t) (is-shallow-at t) is-shallow.Post is-shallow-Inv-loop is-shallow-μ-loop
 is-shallow-returns-2 t c = c .before .before .before .before .before .before .before .loop .inv false (λ j. sym (shallow-next j (now (c .before .before .before .before .before .before .before .loop .c)) _ (c .before .before .before .before .before .before .loop-test .taken) (omega (arith, c .before .before .before .if2 .left)) ∙ rw (← c .before .before .children .ensures, ← c .before .is-shallow .ensures (j + 1), c .if3 .left)))
 
+is-shallow-loop-less-2 : (t : ℕ) → is-shallow-lts.Need-loop-less-2 (is-shallow-claims t) (is-shallow-at t) is-shallow.Post is-shallow-Inv-loop is-shallow-μ-loop
+is-shallow-loop-less-2 t c = simp (length-take, length-drop) (omega (arith, c .before .before .before .before .before .loop-test .taken))
+
+is-shallow-loop-again-2 : (t : ℕ) → is-shallow-lts.Need-loop-again-2 (is-shallow-claims t) (is-shallow-at t) is-shallow.Post is-shallow-Inv-loop is-shallow-μ-loop
+is-shallow-loop-again-2 t c =
+    let c₁ = c .before in let c₂ = c₁ .before in let c₃ = c₂ .before in let c₄ = c₃ .before in let c₅ = c₄ .before in
+    let l = c₅ .before .loop in let w = now (l .c) in
+    let behind = rest-token w (sym (c₂ .is-token .ensures) ∙ c₁ .if4 .taken) in
+    λ b f. l .inv b (λ j. f (j + span w) ∙ sym (shallow-few j w _ (c₅ .loop-test .taken) (omega (arith, c₄ .span-of .ensures, c₃ .if1 .left)) ∙ rw (← behind)))
+
 is-shallow-rest-requires-2 : (t : ℕ) → is-shallow-lts.Need-rest-requires-2 (is-shallow-claims t) (is-shallow-at t) is-shallow.Post is-shallow-Inv-loop is-shallow-μ-loop
 is-shallow-rest-requires-2 t c κs = tt
 
-is-shallow-loop-less-2 : (t : ℕ) → is-shallow-lts.Need-loop-less-2 (is-shallow-claims t) (is-shallow-at t) is-shallow.Post is-shallow-Inv-loop is-shallow-μ-loop
-is-shallow-loop-less-2 t c = omega (arith, ap length (c .rest2 .ensures), rest-shorter (now (c .before .before .before .before .loop .c)) (omega (arith, c .before .before .before .loop-test .taken)))
+is-shallow-loop-less-3 : (t : ℕ) → is-shallow-lts.Need-loop-less-3 (is-shallow-claims t) (is-shallow-at t) is-shallow.Post is-shallow-Inv-loop is-shallow-μ-loop
+is-shallow-loop-less-3 t c =
+    let c₅ = c .before .before .before .before .before in
+    omega (arith, ap length (c .rest2 .ensures), rest-shorter (now (c₅ .before .loop .c)) (omega (arith, c₅ .loop-test .taken)))
 
-is-shallow-loop-again-2 : (t : ℕ) → is-shallow-lts.Need-loop-again-2 (is-shallow-claims t) (is-shallow-at t) is-shallow.Post is-shallow-Inv-loop is-shallow-μ-loop
-is-shallow-loop-again-2 t c = λ b f. c .before .before .before .before .loop .inv b (λ j. f (j + span (now (c .before .before .before .before .loop .c))) ∙ sym (shallow-few j (now (c .before .before .before .before .loop .c)) _ (c .before .before .before .loop-test .taken) (omega (arith, c .before .before .span-of .ensures, c .before .if1 .left)) ∙ rw (← c .rest2 .ensures)))
+is-shallow-loop-again-3 : (t : ℕ) → is-shallow-lts.Need-loop-again-3 (is-shallow-claims t) (is-shallow-at t) is-shallow.Post is-shallow-Inv-loop is-shallow-μ-loop
+is-shallow-loop-again-3 t c =
+    let c₃ = c .before .before .before in let c₄ = c₃ .before in let c₅ = c₄ .before in
+    let l = c₅ .before .loop in let w = now (l .c) in
+    λ b f. l .inv b (λ j. f (j + span w) ∙ sym (shallow-few j w _ (c₅ .loop-test .taken) (omega (arith, c₄ .span-of .ensures, c₃ .if1 .left)) ∙ rw (← c .rest2 .ensures)))
 
 is-shallow-returns-3 : (t : ℕ) → is-shallow-lts.Need-returns-3 (is-shallow-claims t) (is-shallow-at t) is-shallow.Post is-shallow-Inv-loop is-shallow-μ-loop
 is-shallow-returns-3 t c = c .before .loop .inv true (λ j. sym (shallow-end j (now (c .before .loop .c)) _ (omega (arith, c .loop-test .left))))
@@ -101,7 +118,13 @@ pub +is-shallow-spec : {M : Type 1} → statement M
     (is-shallow-loop-less t)
     (is-shallow-loop-again t)
     (is-shallow-returns-2 t)
-    (is-shallow-rest-requires-2 t)
+    (λ c κs. tt)
+    (λ c. search needs)
+    (λ c. search needs)
+    (λ c. search needs)
     (is-shallow-loop-less-2 t)
     (is-shallow-loop-again-2 t)
+    (is-shallow-rest-requires-2 t)
+    (is-shallow-loop-less-3 t)
+    (is-shallow-loop-again-3 t)
     (is-shallow-returns-3 t)

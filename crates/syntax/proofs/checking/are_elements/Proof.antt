@@ -3,45 +3,40 @@
 use mathlib.Core.Path.{_≡_, refl, sym, _∙_}
 use mathlib.Core.Bool.{true, false}
 use denote.Ref.{now}
-use Prim.Native.Nat.{_-_, _<_}
-use lib.ListN.{length, drop, length-drop}
-use lib.Seq.{drop-drop}
+use lib.ListN.{length, length-take, length-drop}
 use native.Mathlib.Omega.{arith}
 use Rattle.syntax.specs.Rows.{isElement, every}
-use Rattle.syntax.proofs.RowLaws.{every-end, every-next}
+use Rattle.syntax.proofs.PartLaws.{slice-end}
+use Rattle.syntax.proofs.RowLaws.{every-next, every-last}
 use borrow.Author.Needs.{needs}
 use Rattle.syntax.proofs.checking.are_elements.Statement.{statement}
 use Rattle.syntax.proofs.checking.are_elements.Tie as tie
 
 abbrev Inv-loop : tie.InvT-loop
-Inv-loop words i₀ i = every words ≡ every (drop i words)
+Inv-loop words c₀ c = every words ≡ every c
 
 abbrev μ-loop : tie.MeasureT-loop
-μ-loop words i₀ i = length words - i
-
-loop-holds : tie.Need-loop-holds Inv-loop μ-loop
-loop-holds c = refl
-
-tail-requires : tie.Need-tail-requires Inv-loop μ-loop
-tail-requires c κs = tt
-
-is-element-requires : tie.Need-is-element-requires Inv-loop μ-loop
-is-element-requires c κs = tt
-
-add-i : tie.Need-add-i Inv-loop μ-loop
-add-i c = search needs
+μ-loop words c₀ c = length c
 
 loop-less : tie.Need-loop-less Inv-loop μ-loop
-loop-less c = omega (arith, c .before .before .before .loop-test .taken)
+loop-less c = simp (length-take, length-drop) (omega (arith, c .before .before .before .loop-test .taken))
 
 loop-again : tie.Need-loop-again Inv-loop μ-loop
-loop-again c = let w = now (c .before .before .before .before .before .before .args .words) in let i = c .before .before .before .before .loop .i in let good : isElement (drop i w) ≡ true = rw (c .before .before .tail .ensures) at (sym (c .before .is-element .ensures) ∙ c .if1 .taken) in c .before .before .before .before .loop .inv ∙ every-next (drop i w) (simp length-drop (omega (arith, c .before .before .before .loop-test .taken))) ∙ rw (good, drop-drop 3 i w)
+loop-again c =
+    let c₁ = c .before in let c₂ = c₁ .before in let c₃ = c₂ .before in let l = c₃ .before .loop in let w = now (l .c) in
+    let good : isElement w ≡ true = sym (c₂ .is-element .ensures) ∙ c₁ .if1 .taken in
+    l .inv ∙ every-next w (omega (arith, c₃ .loop-test .taken)) ∙ rw (good, slice-end w 3)
 
 returns : tie.Need-returns Inv-loop μ-loop
-returns c = let w = now (c .before .before .before .before .before .before .args .words) in let i = c .before .before .before .before .loop .i in let bad : isElement (drop i w) ≡ false = rw (c .before .before .tail .ensures) at (sym (c .before .is-element .ensures) ∙ c .if1 .left) in sym (c .before .before .before .before .loop .inv ∙ every-next (drop i w) (simp length-drop (omega (arith, c .before .before .before .loop-test .taken))) ∙ rw bad)
+returns c =
+    let c₁ = c .before in let c₂ = c₁ .before in let l = c₂ .before .loop in let w = now (l .c) in
+    let bad : isElement w ≡ false = sym (c₁ .is-element .ensures) ∙ c .if1 .left in
+    sym (l .inv ∙ every-next w (omega (arith, c₂ .loop-test .taken)) ∙ rw bad)
 
 returns-2 : tie.Need-returns-2 Inv-loop μ-loop
-returns-2 c = let w = now (c .before .before .before .args .words) in let i = c .before .loop .i in sym (c .before .loop .inv ∙ every-end (drop i w) (simp length-drop (omega (arith, c .loop-test .left))))
+returns-2 c =
+    let l = c .before .loop in
+    every-last (now (l .c)) (omega (arith, c .loop-test .left)) ∙ sym (l .inv)
 
 pub are-elements-spec : {M : Type 1} → statement M
 are-elements-spec =
@@ -49,10 +44,11 @@ are-elements-spec =
     (tie.spec
     Inv-loop
     μ-loop
-    loop-holds
-    tail-requires
-    is-element-requires
-    add-i
+    (λ c. refl)
+    (λ c κs. tt)
+    (λ c. search needs)
+    (λ c. search needs)
+    (λ c. search needs)
     loop-less
     loop-again
     returns

@@ -1,0 +1,3 @@
+mod FirstLaws
+mod TurnLaws
+mod ScanLaws

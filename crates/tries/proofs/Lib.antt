@@ -1,0 +1,3 @@
+-- Laws of the definitions of specs/, for the proofs of this crate.
+pub mod CountLaws
+pub mod AskedLaws

@@ -1,0 +1,88 @@
+//! Each call with the smallest input that has an answer of its own.
+
+use input::build::{Syntax, node, token, token_list};
+use input::pairs::encode;
+use input::{File, Pair, RuleSide, Rules, Side, TokenList, TreeCheck};
+use library::lists::{check_pair, raw_code, read_tokens};
+use library::matching::{Range, match_node};
+use library::rules::{build_rules, resolve};
+use library::trees::{check_file, check_tree};
+
+/// `$` and a name.
+fn placeholder(name: &str) -> TokenList {
+    token_list(&[(8, "$"), (1, name)])
+}
+
+/// The literal `1`.
+fn one() -> Syntax {
+    node(66, [token(12, "1")])
+}
+
+fn file() -> File {
+    File { tree: one().words(), text: one().text(), facts: Vec::new() }
+}
+
+/// The pattern `1` without a template.
+fn rules() -> Rules {
+    let mut pattern =
+        Side { list: token_list(&[(12, "1")]), code: one().text(), ..Side::default() };
+    pattern.trees[0].words = one().words();
+    encode(&[Pair { pattern, ..Pair::default() }], b"")
+}
+
+#[test]
+fn a_list_is_read_checked_and_written() {
+    let read = read_tokens(&placeholder("a"));
+    assert_eq!((read.refusal, read.count, read.constraints), (0, 1, 0));
+    assert_eq!((read.placeholders[0].start, read.placeholders[0].end), (1, 2));
+    assert_eq!(read_tokens(&TokenList { words: vec![0], text: Vec::new() }).refusal, 1);
+
+    assert_eq!(check_pair(&placeholder("a"), None), 0);
+    assert_eq!(check_pair(&placeholder("a"), Some(&placeholder("b"))), 15);
+
+    let mut out = [7; 16];
+    let written = raw_code(&placeholder("a"), &mut out);
+    assert_eq!((written.refusal, written.length), (0, 15));
+    assert_eq!(out, *b"__placeholder_a\0");
+    assert_eq!(raw_code(&placeholder("a"), &mut out[..14]).refusal, 16);
+}
+
+#[test]
+fn a_tree_is_checked() {
+    assert_eq!(check_file(&file()), 0);
+    assert_eq!(check_file(&File::default()), 19);
+    let list = token_list(&[(12, "1")]);
+    let rule = RuleSide { given: 1, list, side: 0, fact_text: Vec::new() };
+    let mut check = TreeCheck { tree: file(), rule: Some(rule) };
+    assert_eq!(check_tree(&check), 0);
+    check.tree.text = b"2".to_vec();
+    assert_eq!(check_tree(&check), 19);
+}
+
+#[test]
+fn rules_are_built_and_resolved() {
+    let built = build_rules(&rules(), 0);
+    assert_eq!((built.refusal, built.rules, built.found, built.template), (0, 1, 1, 0));
+    assert_eq!(build_rules(&rules(), 1).found, 0);
+    assert_eq!(resolve(&rules(), 0, 0, 1).found, 1);
+    assert_eq!(resolve(&rules(), 0, 1, 0).found, 0);
+}
+
+#[test]
+fn a_node_is_matched() {
+    let ask = |node, range| match_node(&rules(), &file(), node, 0, range, &mut [7; 2]);
+    let given = Range { given: 1, start: 1, end: 1 };
+    assert_eq!((ask(0, Range::default()).refusal, ask(0, Range::default()).matched), (0, 1));
+    assert_eq!((ask(0, given).refusal, ask(0, given).matched), (0, 0));
+    assert_eq!(ask(1, Range::default()).refusal, 23);
+}
+
+#[cfg(feature = "tries")]
+#[test]
+fn matches_are_counted() {
+    let counted = |rule, rounds| {
+        let counted = library::tries::count_matches(&rules(), &file(), rule, rounds);
+        (counted.refusal, counted.matches)
+    };
+    assert_eq!([counted(0, 0), counted(0, 3), counted(1, 3)], [(0, 0), (0, 3), (23, 0)]);
+}
