@@ -1,0 +1,3 @@
+pub mod Ranges
+pub mod Parses
+pub mod Answers
