@@ -1,0 +1,5 @@
+pub mod Edits
+pub mod Traces
+pub mod Made
+pub mod Loaded
+pub mod Answers

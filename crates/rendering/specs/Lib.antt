@@ -1,0 +1,3 @@
+pub mod Events
+pub mod Texts
+pub mod Traces
