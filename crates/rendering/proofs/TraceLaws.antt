@@ -2,17 +2,16 @@
 -- Assumes nothing.
 use mathlib.Core.Path.{_≡_, refl, sym, ap, _∙_}
 use mathlib.Core.Bool.{Bool, true, false, cond}
-use mathlib.Core.List.{List, [], _∷_, _++_, append-assoc}
-use Prim.Native.Nat.{ℕ, _+_, _-_, _≤_}
+use mathlib.Core.List.{List, [], _∷_, _++_}
+use Prim.Native.Nat.{ℕ, _+_, _≤_}
 use native.Mathlib.Omega.{arith}
-use lib.ListN.{length, take, drop, length-append, length-take, length-drop}
+use lib.ListN.{length, drop, length-append, length-take, length-drop}
 use Rattle.parses.specs.Parses.{Lookup, missing, handed}
-use Rattle.parses.specs.Ranges.{NodeRange}
 use Rattle.parentheses.specs.Parentheses.{Part, requires, wrapped}
 use Rattle.rendering.specs.Events.{Event, concat}
 use Rattle.rendering.specs.Texts.{Fragment, isParsed, partsOf}
 use Rattle.rendering.specs.Traces.{Trace, done, stopped, reach, _then_, Traces, all, stops, behind, first, fragmentTrace, tracesOf, judgedTrace, finishedTrace, matchTrace}
-use Rattle.rendering.proofs.RoomLaws.{added, reach-then, length-concat}
+use Rattle.rendering.proofs.RoomLaws.{reach-then, length-concat}
 
 -- ---- one trace behind another
 

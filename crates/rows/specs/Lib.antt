@@ -1,0 +1,3 @@
+pub mod Told
+pub mod Rows
+pub mod Frames
