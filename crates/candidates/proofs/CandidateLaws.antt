@@ -13,7 +13,7 @@ use Rattle.syntax.specs.Trees.{Elems, tree}
 use Rattle.syntax.specs.Accessors.{elementAt, nodeIn}
 use Rattle.syntax.specs.Checks.{WellFormed}
 use Rattle.syntax.proofs.Places.{tree-size, tree-none}
-use Rattle.candidates.specs.Candidates.{Candidate, missingRule, candidateAt, candidatesOf, candidateCount, isNamed, anyBad}
+use Rattle.candidates.specs.Candidates.{Candidate, missingRule, candidateAt, candidatesOf, candidateCount, isNamed, anyBad, keysOf}
 
 -- the first two words, or a lone one, are the first candidate
 pub candidates-cons : (l : List ℕ) → 0 < length l → candidatesOf l ≡ candidateAt l ∷ candidatesOf (drop 2 l)
@@ -39,6 +39,11 @@ unfolding candidatesOf
 length-candidates [] = refl
 length-candidates (a ∷ []) = refl
 length-candidates (a ∷ (b ∷ l)) = omega (arith, length-candidates l)
+
+-- and as many keys
+pub length-keys : (l : List Candidate) → length (keysOf l) ≡ length l
+length-keys [] = refl
+length-keys (c ∷ l) = rw (length-keys l)
 
 -- no number past the last element's is that of a node
 pub no-node : (l : List ℕ) (n : ℕ) → WellFormed l → length l / 3 ≤ n → nodeIn 1 4095 (elementAt n (tree l)) ≡ false

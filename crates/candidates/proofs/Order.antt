@@ -1,14 +1,13 @@
 -- Demand 3, the order of candidates: the same candidates in another order are refused alike, are the same set of pairs, and have the
 -- same keys in rising order.
 -- Assumes nothing.
-use mathlib.Core.Path.{_≡_, refl, sym, ap, _∙_}
+use mathlib.Core.Path.{_≡_, refl, ap, _∙_}
 use mathlib.Core.Bool.{Bool, true, false, not, _&&_, _||_}
 use mathlib.Core.List.{List}
 use Prim.Native.Nat.{ℕ, suc}
 use lib.Dec.{eqb}
 use lib.ListN.{length}
-use borrow.Author.Tests.{eqb-true, eq-eqb}
-use Rattle.words.proofs.TestLaws.{both-ways}
+use Rattle.words.proofs.TextLaws.{eqb-sym}
 use Rattle.sorting.specs.Sorted.{insert, sort}
 use Rattle.sorting.proofs.Laws.{insert-insert}
 use Rattle.syntax.specs.Trees.{Elems}
@@ -20,9 +19,6 @@ or-swap true true c = refl
 or-swap true false c = refl
 or-swap false true c = refl
 or-swap false false c = refl
-
-eqb-sym : (a b : ℕ) → eqb a b ≡ eqb b a
-eqb-sym a b = both-ways (eqb a b) (eqb b a) (λ h. eq-eqb b a (sym (eqb-true a b h))) (λ h. eq-eqb a b (sym (eqb-true b a h)))
 
 pub perm-length : {A : Type 0} {a b : List A} → Perm a b → length a ≡ length b
 perm-length done = refl

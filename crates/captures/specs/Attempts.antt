@@ -32,6 +32,10 @@ comments [] = []
 comments (Bound slot b ∷ es) = comments es
 comments (Noted t ∷ es) = t ++ comments es
 
+abbrev pub commentsOf : Attempt → List ℕ
+commentsOf failed = []
+commentsOf (matched es) = comments es
+
 -- the comments noted, as events
 unfoldable pub notes : List Event → List Event
 notes [] = []

@@ -9,6 +9,7 @@ use Rattle.errors.specs.Refusals.{numberOf}
 use Rattle.errors.specs.declared.Refusal.the-variants as refusal
 use Rattle.rendering.specs.Events.{Unbound, NoRoom, Asked, Out, fine, event}
 use Rattle.edits.specs.declared.Edited.{Edited}
+use Rattle.edits.specs.declared.EditedNumbers.{EditedNumbers}
 use Rattle.edits.specs.declared.Edited.the-variants as edited
 
 -- the answer, by the list's bytes or the event that ended it
@@ -27,12 +28,6 @@ bytesOf (event (Asked kind text)) = text
 
 -- 01's number and values of an answer: a refusal's number, 0 where nothing is refused; 1 where a text is asked for, and its kind; and the
 -- length of that text or of the edit list
-pub record EditedNumbers : Type 0 where
-  pub refusal : ℕ
-  pub asked : ℕ
-  pub kind : ℕ
-  pub length : ℕ
-
 abbrev pub editedNumbers : Edited → EditedNumbers
 editedNumbers (edited.Refused r) = record { refusal = numberOf r; asked = 0; kind = 0; length = 0 }
 editedNumbers (edited.Asked kind n) = record { refusal = 0; asked = 1; kind = kind; length = n }

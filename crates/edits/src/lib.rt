@@ -9,12 +9,48 @@ ghost use Prim.Native.Nat.{_+_, _≤_};
 ghost use lib.ListN.{length, take, drop};
 ghost use Rattle.words.specs.Buffer.{usedOf, filled, laid, placeAfter, laidIfRoom};
 ghost use Rattle.edits.specs.Edits.{editWords};
+ghost use Rattle.edits.specs.Answers.{editedNumbers};
 
 // What came of a job: Asked has the kind and the length of the text, an edit list its length.
 pub enum Edited {
     Refused(Refusal),
     Asked(u32, usize),
     Edits(usize),
+}
+
+// 01's number and values of an answer: a refusal's number, whether a text is asked for, its kind, and the length of that text or of the edit list.
+#[repr(C)]
+pub struct EditedNumbers {
+    pub refusal: u32,
+    pub asked: u32,
+    pub kind: u32,
+    pub length: usize,
+}
+
+// An answer in numbers. What a case does not have is 0.
+pub fn numbers_of(e: Edited) -> EditedNumbers
+    ensures { λ r. ⌜ r ≡ editedNumbers e ⌝ }
+{
+    match e {
+        Edited::Refused(r) => EditedNumbers {
+            refusal: errors::number_of(r),
+            asked: 0,
+            kind: 0,
+            length: 0,
+        },
+        Edited::Asked(kind, length) => EditedNumbers {
+            refusal: 0,
+            asked: 1,
+            kind,
+            length,
+        },
+        Edited::Edits(length) => EditedNumbers {
+            refusal: 0,
+            asked: 0,
+            kind: 0,
+            length,
+        },
+    }
 }
 
 // Lays the three words of an edit whose text has n bytes; where they do not fit, nothing changes.

@@ -23,11 +23,11 @@ use Rattle.gathering.proofs.RowLaws.{binding-kept}
 -- ---- a row and a link that are the same tell the same
 
 module _ (l l′ : List ℕ) (i : ℕ) where
-  state-kept : (a : Attempt) → SamePart (44 * i) 44 l l′ → StateOf a l i → StateOf a l′ i
+  state-kept : (a : Attempt) → SamePart (i * 44) 44 l l′ → StateOf a l i → StateOf a l′ i
   state-kept failed s t = s 2 (omega arith) ∙ t
   state-kept (matched es) s t = (s 2 (omega arith) ∙ t .0, λ slot h. binding-kept l l′ i slot h s ∙ t .1 slot h)
 
-  row-kept : {a : Attempt} {n r : ℕ} → SamePart (44 * i) 44 l l′ → RowOf a n r l i → RowOf a n r l′ i
+  row-kept : {a : Attempt} {n r : ℕ} → SamePart (i * 44) 44 l l′ → RowOf a n r l i → RowOf a n r l′ i
   row-kept {a} s t = record {
     node = s 0 (omega arith) ∙ t .node;
     rule = s 1 (omega arith) ∙ t .rule;
@@ -36,7 +36,7 @@ module _ (l l′ : List ℕ) (i : ℕ) where
   }
 
   link-kept : {a : Attempt} {m : ℕ} → SamePart (3 * i) 3 l l′ → LinkOf a m l i → LinkOf a m l′ i
-  link-kept s t = record { noted = s 1 (omega arith) ∙ t .noted; «module» = s 2 (omega arith) ∙ t .«module» }
+  link-kept s t = record { fresh = s 0 (omega arith) ∙ t .fresh; noted = s 1 (omega arith) ∙ t .noted; «module» = s 2 (omega arith) ∙ t .«module» }
 
 module _ (attempt : ℕ → ℕ → Attempt) (modules : ℕ → ℕ) (keys : List ℕ) where
   pub told-kept : (r l r′ l′ : List ℕ) (i : ℕ) → Same r l r′ l′ i → Told attempt modules keys r l i → Told attempt modules keys r′ l′ i
@@ -45,16 +45,16 @@ module _ (attempt : ℕ → ℕ → Attempt) (modules : ℕ → ℕ) (keys : Lis
 -- ---- other rows and links than those that are set
 
 same-then : (a b a′ b′ a″ b″ : List ℕ) (i : ℕ) → Same a b a′ b′ i → Same a′ b′ a″ b″ i → Same a b a″ b″ i
-same-then a b a′ b′ a″ b″ i s t = (part-then (44 * i) 44 a a′ a″ (s .0) (t .0), part-then (3 * i) 3 b b′ b″ (s .1) (t .1))
+same-then a b a′ b′ a″ b″ i s t = (part-then (i * 44) 44 a a′ a″ (s .0) (t .0), part-then (3 * i) 3 b b′ b″ (s .1) (t .1))
 
 abbrev pub SetOnly : ℕ → List ℕ → List ℕ → List ℕ → List ℕ → Type 0
-SetOnly k r l r′ l′ = SameBut (44 * k) 44 r r′ × SameBut (3 * k) 3 l l′
+SetOnly k r l r′ l′ = SameBut (k * 44) 44 r r′ × SameBut (3 * k) 3 l l′
 
 other-same : {r l r′ l′ : List ℕ} (k i : ℕ) → SetOnly k r l r′ l′ → (i ≡ k → ⊥) → Same r l r′ l′ i
 other-same k i s d =
     low-or i k
-    (λ h. (part-before (44 * i) 44 (s .0) (omega arith), part-before (3 * i) 3 (s .1) (omega arith)))
-    (λ h. (part-behind (44 * i) 44 (s .0) (omega arith), part-behind (3 * i) 3 (s .1) (omega arith)))
+    (λ h. (part-before (i * 44) 44 (s .0) (omega arith), part-before (3 * i) 3 (s .1) (omega arith)))
+    (λ h. (part-behind (i * 44) 44 (s .0) (omega arith), part-behind (3 * i) 3 (s .1) (omega arith)))
 
 -- ---- key by key
 

@@ -6,7 +6,7 @@ use mathlib.Core.Bool.{Bool, true, false, cond, not}
 use mathlib.Core.List.{List, [], _∷_, _++_, append-assoc, append-nil}
 use Prim.Native.Nat.{ℕ, zero, suc, _+_, _*_, _/_, _%_, _<_, _≤_}
 use native.Mathlib.Omega.{arith}
-use lib.Dec.{eqb, ltb}
+use lib.Dec.{ltb}
 use lib.ListN.{length, getD, set, length-set, drop-of-length-le}
 use lib.Seq.{drop-cons}
 use borrow.Author.Tests.{ltb-true, not-false}
@@ -19,7 +19,7 @@ use Rattle.syntax.specs.Checks.{WellFormed}
 use Rattle.syntax.proofs.Places.{tree-size}
 use Rattle.captures.specs.declared.Binding.{Binding}
 use Rattle.captures.specs.declared.State.{State}
-use Rattle.captures.specs.Attempts.{Event, Bound, Noted, Attempt, failed, matched}
+use Rattle.captures.specs.Attempts.{Event, Bound, Noted, Attempt, failed, matched, commentsOf}
 use Rattle.captures.specs.Effects.{unbound, nothing, recordedOne, recorded}
 use Rattle.checks.specs.Given.{File}
 use Rattle.match_node.specs.MatchNode.{isNodeOf}
@@ -27,10 +27,10 @@ use Rattle.candidates.specs.Candidates.{Candidate, each, has, isNamed, anyBad, 
 use Rattle.candidates.proofs.CandidateLaws.{named-low}
 use Rattle.candidates.proofs.EachLaws.{each-same}
 use Rattle.candidates.proofs.SortedLaws.{sorted-keys}
-use Rattle.rows.specs.Rows.{rowWord}
 use Rattle.nester.specs.Matches.{Match, matchOf, byElement}
+use Rattle.nester.specs.Rows.{matchedIn, matchesIn}
 use Rattle.gathering.specs.Told.{RowOf, Told}
-use Rattle.gathering.specs.Gathered.{AreNodes, AreBelow, matchIn, matchesIn}
+use Rattle.gathering.specs.Gathered.{AreNodes, AreBelow}
 
 -- ---- keys name nodes and rules
 
@@ -87,8 +87,8 @@ eight-are l d h =
     ))
 
 module _ (attempt : ℕ → ℕ → Attempt) (rows : List ℕ) (i n r : ℕ) where
-  shown : (a : Attempt) → attempt n r ≡ a → RowOf a n r rows i
-      → cond (eqb (rowWord rows i 2) 1) (matchIn attempt rows i ∷ []) [] ≡ matchOf n r a
+  shown : (a : Attempt) → attempt n r ≡ a → RowOf a n r rows i → matchedIn (λ n r. commentsOf (attempt n r)) rows i ≡ matchOf n r a
+  unfolding each
   shown failed e t = rw (t .state)
   shown (matched es) e t =
       let b = t .state .1 in
@@ -153,7 +153,7 @@ module _ (words : List ℕ) (rules : ℕ) (attempt : ℕ → ℕ → Attempt) (f
   pub shown-matches : (modules : ℕ → ℕ) (cs : List Candidate) (keys rows links : List ℕ)
       → WellFormed words → anyBad (tree words) rules cs ≡ false → isTwice cs ≡ false
       → keys ≡ sort (keysOf cs) → ((i : ℕ) → i < length keys → Told attempt modules keys rows links i)
-      → matchesIn attempt rows (length keys) ≡ byElement (tree words) rules attempt (has cs)
+      → matchesIn (λ n r. commentsOf (attempt n r)) rows (length keys) ≡ byElement (tree words) rules attempt (has cs)
   unfolding byElement
   shown-matches modules cs keys rows links w named once e told =
       let s : length words / 3 ≡ size (tree words) = omega (arith, tree-size words w) in

@@ -1,7 +1,7 @@
 -- The words of a row and of a link, as they are set, and what they tell of an attempt.
 -- Assumes nothing.
 use mathlib.Core.Path.{_≡_, refl, _∙_}
-use mathlib.Core.Bool.{Bool, true, false, cond, not}
+use mathlib.Core.Bool.{Bool, true, false, cond}
 use mathlib.Core.List.{List, []}
 use Prim.Native.Nat.{ℕ, _+_, _*_, _<_, _≤_}
 use native.Mathlib.Omega.{arith}
@@ -14,8 +14,9 @@ use Rattle.captures.specs.declared.Answer.{Answer}
 use Rattle.captures.specs.Attempts.{Attempt, failed, matched, comments}
 use Rattle.captures.specs.Effects.{unbound, nothing, recorded, Gives}
 use Rattle.captures.proofs.AttemptLaws.{noted-total}
-use Rattle.rows.specs.Rows.{rowWord, bindingWord, bindingIn}
-use Rattle.gathering.specs.Told.{StateOf, RowOf, hasComments, linkWord, LinkOf}
+use Rattle.nester.specs.Rows.{field, bindingIn}
+use Rattle.collections.specs.Links.{linkWord}
+use Rattle.gathering.specs.Told.{StateOf, RowOf, hasComments, LinkOf}
 use Rattle.gathering.specs.Gathered.{SamePart, SameBut}
 use Rattle.gathering.proofs.TableLaws.{but-set, but-then, word-set, word-kept}
 
@@ -58,14 +59,14 @@ module _ (l : List ℕ) (at a b c d : ℕ) where
 
 -- ---- a binding
 
-flag-back : (b : Bool) → not (eqb (cond b 1 0) 0) ≡ b
+flag-back : (b : Bool) → eqb (cond b 1 0) 1 ≡ b
 flag-back true = refl
 flag-back false = refl
 
 -- the words of a binding
 module _ (l : List ℕ) (k slot flag : ℕ) (b : Binding) where
   abbrev at : ℕ
-  at = 44 * k + (5 * slot + 4)
+  at = k * 44 + (4 + slot * 5)
 
   abbrev first : List ℕ
   first = four l at flag (b .start) (b .end) (b .stars)
@@ -78,47 +79,47 @@ module _ (l : List ℕ) (k slot flag : ℕ) (b : Binding) where
       but-then (four-same l at flag (b .start) (b .end) (b .stars) 5 (omega arith))
       (but-set at 5 first (at + 4) (b .«self_kind») (omega arith) (omega arith))
 
-  module _ (low : slot < 8) (room : 44 * k + 44 ≤ length l) (is : flag ≡ cond (b .bound) 1 0) where
-    early : (i : ℕ) → i < 4 → bindingWord put k slot i ≡ bindingWord first k slot i
-    early i h = word-kept first (at + 4) (b .«self_kind») (44 * k + (5 * slot + (i + 4))) (λ q. omega arith)
+  module _ (low : slot < 8) (room : k * 44 + 44 ≤ length l) (is : flag ≡ cond (b .bound) 1 0) where
+    early : (i : ℕ) → i < 8 → field put k (i + slot * 5) ≡ field first k (i + slot * 5)
+    early i h = word-kept first (at + 4) (b .«self_kind») (k * 44 + (i + slot * 5)) (λ q. omega arith)
 
     pub binding-put : bindingIn put k slot ≡ b
     binding-put =
         let fits : at + 4 ≤ length l = omega arith in
         let s = b .start in let e = b .end in let t = b .stars in
-        let w0 = early 0 (omega arith) ∙ word-first l at flag s e t at fits refl ∙ is in
-        let w1 = early 1 (omega arith) ∙ word-second l at flag s e t (44 * k + (5 * slot + 5)) fits (omega arith) in
-        let w2 = early 2 (omega arith) ∙ word-third l at flag s e t (44 * k + (5 * slot + 6)) fits (omega arith) in
-        let w3 = early 3 (omega arith) ∙ word-fourth l at flag s e t (44 * k + (5 * slot + 7)) fits (omega arith) in
-        let w4 : bindingWord put k slot 4 ≡ b .«self_kind» =
-        word-set first (at + 4) (b .«self_kind») (44 * k + (5 * slot + 8)) (omega arith) (simp length-set (omega arith)) in
+        let w0 = early 4 (omega arith) ∙ word-first l at flag s e t at fits refl ∙ is in
+        let w1 = early 5 (omega arith) ∙ word-second l at flag s e t (k * 44 + (5 + slot * 5)) fits (omega arith) in
+        let w2 = early 6 (omega arith) ∙ word-third l at flag s e t (k * 44 + (6 + slot * 5)) fits (omega arith) in
+        let w3 = early 7 (omega arith) ∙ word-fourth l at flag s e t (k * 44 + (7 + slot * 5)) fits (omega arith) in
+        let w4 : field put k (8 + slot * 5) ≡ b .«self_kind» =
+        word-set first (at + 4) (b .«self_kind») (k * 44 + (8 + slot * 5)) (omega arith) (simp length-set (omega arith)) in
         rw (w0, w1, w2, w3, w4, flag-back (b .bound))
 
 -- a row that is the same has the same bindings
-pub binding-kept : (l l′ : List ℕ) (k slot : ℕ) → slot < 8 → SamePart (44 * k) 44 l l′ → bindingIn l′ k slot ≡ bindingIn l k slot
+pub binding-kept : (l l′ : List ℕ) (k slot : ℕ) → slot < 8 → SamePart (k * 44) 44 l l′ → bindingIn l′ k slot ≡ bindingIn l k slot
 binding-kept l l′ k slot h s =
     rw (
-      s (5 * slot + 4) (omega arith),
-      s (5 * slot + 5) (omega arith),
-      s (5 * slot + 6) (omega arith),
-      s (5 * slot + 7) (omega arith),
-      s (5 * slot + 8) (omega arith),
+      s (4 + slot * 5) (omega arith),
+      s (5 + slot * 5) (omega arith),
+      s (6 + slot * 5) (omega arith),
+      s (7 + slot * 5) (omega arith),
+      s (8 + slot * 5) (omega arith),
     )
 
 -- the next slot's words are set
 pub bindings-more : (l l′ : List ℕ) (k slot : ℕ) (bs : List Binding) (b : Binding) → slot < 8
-    → SameBut (44 * k + (5 * slot + 4)) 5 l l′ → bindingIn l′ k slot ≡ b → b ≡ getD bs slot unbound
+    → SameBut (k * 44 + (4 + slot * 5)) 5 l l′ → bindingIn l′ k slot ≡ b → b ≡ getD bs slot unbound
     → ((i : ℕ) → i < slot → bindingIn l k i ≡ getD bs i unbound)
     → (i : ℕ) → i < slot + 1 → bindingIn l′ k i ≡ getD bs i unbound
 bindings-more l l′ k slot bs b low s e g before i h =
     low-or i slot
     (λ m.
     rw (
-      s .before (44 * k + (5 * i + 4)) (omega arith),
-      s .before (44 * k + (5 * i + 5)) (omega arith),
-      s .before (44 * k + (5 * i + 6)) (omega arith),
-      s .before (44 * k + (5 * i + 7)) (omega arith),
-      s .before (44 * k + (5 * i + 8)) (omega arith),
+      s .before (k * 44 + (4 + i * 5)) (omega arith),
+      s .before (k * 44 + (5 + i * 5)) (omega arith),
+      s .before (k * 44 + (6 + i * 5)) (omega arith),
+      s .before (k * 44 + (7 + i * 5)) (omega arith),
+      s .before (k * 44 + (8 + i * 5)) (omega arith),
     )
     (before i m))
     (λ m. let q : i ≡ slot = omega arith in rw q (e ∙ g))
@@ -126,8 +127,8 @@ bindings-more l l′ k slot bs b low s e g before i h =
 -- ---- what a row and a link tell of an attempt
 
 module _ (r : Answer) (end : List ℕ) where
-  module _ (rows : List ℕ) (n number i : ℕ) (node : rowWord rows i 0 ≡ n) (rule : rowWord rows i 1 ≡ number) (slot : rowWord rows i 3 ≡ 0)
-      (ok : rowWord rows i 2 ≡ cond (r .ok) 1 0)
+  module _ (rows : List ℕ) (n number i : ℕ) (node : field rows i 0 ≡ n) (rule : field rows i 1 ≡ number) (slot : field rows i 3 ≡ 0)
+      (ok : field rows i 2 ≡ cond (r .ok) 1 0)
       (bindings : (k : ℕ) → k < 8 → bindingIn rows i k ≡ getD (r .state .bindings) k unbound) where
     state-is : (a : Attempt) → Gives a nothing [] r end → StateOf a rows i
     state-is failed g = rw (g .answer) at ok
@@ -151,5 +152,6 @@ module _ (r : Answer) (end : List ℕ) where
       rw (g .answer, e, z))
 
   pub link-is : (links : List ℕ) (flag m i : ℕ) → flag ≡ cond (ltb 0 (r .state .noted)) 1 0
-      → linkWord links i 1 ≡ flag → linkWord links i 2 ≡ m → (a : Attempt) → Gives a nothing [] r end → LinkOf a m links i
-  link-is links flag m i f noted is a g = record { noted = noted ∙ f ∙ noted-is a g; «module» = is }
+      → linkWord links i 0 ≡ 0 → linkWord links i 1 ≡ flag → linkWord links i 2 ≡ m
+      → (a : Attempt) → Gives a nothing [] r end → LinkOf a m links i
+  link-is links flag m i f fresh noted is a g = record { fresh = fresh; noted = noted ∙ f ∙ noted-is a g; «module» = is }

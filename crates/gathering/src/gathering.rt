@@ -12,7 +12,7 @@ use rules::numbering::Rule;
 ghost use mathlib.Core.Path.{_≡_};
 ghost use mathlib.Core.Bool.{true, false};
 ghost use mathlib.Core.List.{map};
-ghost use Prim.Native.Nat.{ℕ, _+_, _*_, _<_, _≤_};
+ghost use Prim.Native.Nat.{_+_, _*_, _<_, _≤_};
 ghost use lib.ListN.{length};
 ghost use Rattle.errors.specs.declared.Outcome.the-variants.{Accepted};
 ghost use Rattle.fragments.specs.Pairs.{pairs, pairOf, pairAt};
@@ -22,12 +22,12 @@ ghost use Rattle.rules.specs.Stages.{stageOutcome};
 ghost use Rattle.rules.specs.Numbering.{rules};
 ghost use Rattle.resolving.specs.RulePaths.{pairFails};
 ghost use Rattle.resolving.specs.Needs.{Passed, Left, AllRoomy};
-ghost use Rattle.matcher.specs.FileFacts.{FileOf};
+ghost use Rattle.matcher.specs.FileFacts.{FileOf, moduleOf};
 ghost use Rattle.checks.specs.Given.{rulesOf, fileOf};
 ghost use Rattle.match_node.specs.RuleMatch.{ruleMatch};
 ghost use Rattle.match_node.specs.MatchNode.{isNodeOf};
 ghost use Rattle.match_node.specs.Ready.{Ready, MarksRoomy};
-ghost use Rattle.gathering.specs.Told.{RowOf, LinkOf, moduleOf};
+ghost use Rattle.gathering.specs.Told.{RowOf, LinkOf};
 ghost use Rattle.gathering.specs.Gathered.{SameBut, Gathers, AreNodes, AreBelow, HaveRoom, attemptOf, Gathered};
 
 // The row and the link of one candidate, with its rule made ready. Comments are not laid: there is no room for any.
@@ -51,10 +51,10 @@ fn gather_one(
 )
     requires { ⌜ (rule .form ≤ 4) × Ready (pairOf (now row) (now words) (now bytes)) rule (now marks) (now paths) (now index) cx ⌝ }
     requires { ⌜ FileOf (now tree) (now facts) (now «file_index») × (isNodeOf (fileOf (now tree) (now text) (now facts)) (question .node) ≡ true) ⌝ }
-    requires { ⌜ (question .node < 16384) × (question .rule < 16) × (44 * k + 44 ≤ length (now rows)) × (3 * k + 3 ≤ length (now links)) ⌝ }
+    requires { ⌜ (question .node < 16384) × (question .rule < 16) × (k * 44 + 44 ≤ length (now rows)) × (3 * k + 3 ≤ length (now links)) ⌝ }
     ensures { λ _. ⌜ RowOf (ruleMatch (pairOf (now (row .entry)) (now (words .entry)) (now (bytes .entry))) rule (fileOf (now (tree .entry)) (now (text .entry)) (now (facts .entry))) (question .range) (question .node)) (question .node) (question .rule) (now (rows .exit)) k ⌝ }
     ensures { λ _. ⌜ LinkOf (ruleMatch (pairOf (now (row .entry)) (now (words .entry)) (now (bytes .entry))) rule (fileOf (now (tree .entry)) (now (text .entry)) (now (facts .entry))) (question .range) (question .node)) (moduleOf (now (facts .entry)) (question .node)) (now (links .exit)) k ⌝ }
-    ensures { λ _. ⌜ SameBut (44 * k) 44 (now (rows .entry)) (now (rows .exit)) × SameBut (3 * k) 3 (now (links .entry)) (now (links .exit)) ⌝ }
+    ensures { λ _. ⌜ SameBut (k * 44) 44 (now (rows .entry)) (now (rows .exit)) × SameBut (3 * k) 3 (now (links .entry)) (now (links .exit)) ⌝ }
 {
     let mut none = [0u8; 1];
     let r = matching::match_ready(

@@ -11,8 +11,9 @@ ghost use lib.ListN.{length, getD};
 ghost use Rattle.captures.specs.Attempts.{Attempt};
 ghost use Rattle.captures.specs.Effects.{unbound, nothing, Gives};
 ghost use Rattle.facts.specs.Keys.{Indexed};
-ghost use Rattle.rows.specs.Rows.{bindingIn};
-ghost use Rattle.gathering.specs.Told.{RowOf, LinkOf, moduleOf};
+ghost use Rattle.matcher.specs.FileFacts.{moduleOf};
+ghost use Rattle.nester.specs.Rows.{bindingIn};
+ghost use Rattle.gathering.specs.Told.{RowOf, LinkOf};
 ghost use Rattle.gathering.specs.Gathered.{SameBut};
 
 // 1 where a test holds.
@@ -27,11 +28,11 @@ fn flag(holds: bool) -> u32
 
 // Sets the five words of a binding.
 fn put_binding(rows: &mut [u32], k: usize, slot: usize, b: Binding)
-    requires { ⌜ (slot < 8) × (44 * k + 44 ≤ length (now rows)) ⌝ }
+    requires { ⌜ (slot < 8) × (k * 44 + 44 ≤ length (now rows)) ⌝ }
     ensures { λ _. ⌜ bindingIn (now (rows .exit)) k slot ≡ b ⌝ }
-    ensures { λ _. ⌜ SameBut (44 * k + (5 * slot + 4)) 5 (now (rows .entry)) (now (rows .exit)) ⌝ }
+    ensures { λ _. ⌜ SameBut (k * 44 + (4 + slot * 5)) 5 (now (rows .entry)) (now (rows .exit)) ⌝ }
 {
-    let at = 44 * k + (5 * slot + 4);
+    let at = k * 44 + (4 + slot * 5);
     rows[at] = flag(b.bound);
     rows[at + 1] = b.start;
     rows[at + 2] = b.end;
@@ -41,9 +42,9 @@ fn put_binding(rows: &mut [u32], k: usize, slot: usize, b: Binding)
 
 // Sets the words of all eight.
 fn put_bindings(rows: &mut [u32], k: usize, s: State)
-    requires { ⌜ 44 * k + 44 ≤ length (now rows) ⌝ }
+    requires { ⌜ k * 44 + 44 ≤ length (now rows) ⌝ }
     ensures { λ _. ⌜ ((slot : ℕ) → slot < 8 → bindingIn (now (rows .exit)) k slot ≡ getD (s .bindings) slot unbound) ⌝ }
-    ensures { λ _. ⌜ SameBut (44 * k + 4) 40 (now (rows .entry)) (now (rows .exit)) ⌝ }
+    ensures { λ _. ⌜ SameBut (k * 44 + 4) 40 (now (rows .entry)) (now (rows .exit)) ⌝ }
 {
     let mut slot: usize = 0;
     while slot < 8 {
@@ -55,15 +56,15 @@ fn put_bindings(rows: &mut [u32], k: usize, s: State)
 
 // The row of a candidate, by the answer of its attempt, which was made with no room for comments.
 pub fn put_row(rows: &mut [u32], k: usize, node: usize, rule: usize, r: Answer)
-    requires { ⌜ (node < 16384) × (rule < 16) × (44 * k + 44 ≤ length (now rows)) ⌝ }
+    requires { ⌜ (node < 16384) × (rule < 16) × (k * 44 + 44 ≤ length (now rows)) ⌝ }
     ensures { λ _. ⌜ ((a : Attempt) (end : List ℕ) → Gives a nothing [] r end → RowOf a node rule (now (rows .exit)) k) ⌝ }
-    ensures { λ _. ⌜ SameBut (44 * k) 44 (now (rows .entry)) (now (rows .exit)) ⌝ }
+    ensures { λ _. ⌜ SameBut (k * 44) 44 (now (rows .entry)) (now (rows .exit)) ⌝ }
 {
     let state = r.state;
-    rows[44 * k] = node as u32;
-    rows[44 * k + 1] = rule as u32;
-    rows[44 * k + 2] = flag(r.ok);
-    rows[44 * k + 3] = 0;
+    rows[k * 44] = node as u32;
+    rows[k * 44 + 1] = rule as u32;
+    rows[k * 44 + 2] = flag(r.ok);
+    rows[k * 44 + 3] = 0;
     put_bindings(rows, k, state);
 }
 
@@ -74,6 +75,7 @@ pub fn put_link(links: &mut [u32], k: usize, r: Answer, module: u32)
     ensures { λ _. ⌜ SameBut (3 * k) 3 (now (links .entry)) (now (links .exit)) ⌝ }
 {
     let state = r.state;
+    links[3 * k] = 0;
     links[3 * k + 1] = flag(0 < state.noted);
     links[3 * k + 2] = module;
 }
@@ -83,9 +85,5 @@ pub fn module_of(facts: &[u32], file_index: &[u64], node: usize) -> u32
     requires { ⌜ Indexed (now facts) (now «file_index») ⌝ }
     ensures { λ r. ⌜ r ≡ moduleOf (now (facts .entry)) node ⌝ }
 {
-    let place = index::find(facts, file_index, 6, node, 0);
-    if place < facts.len() / 4 {
-        return index::value(facts, place, 1);
-    }
-    0
+    index::value(facts, index::find(facts, file_index, 6, node, 0), 1)
 }

@@ -102,10 +102,15 @@ used-part d bs =
     let z : length (take u d) ≤ u = omega (arith, l) in
     rw (l, used-all u (used-small (length d)), drop-of-length-le (take u d) z, append-nil (padded u bs))
 
-pub buffer-part : (q : Rules) (f : File) (number : ℕ) (range : Restriction) (node : ℕ) (d e : List ℕ) → e ≡ bufferAfter q f number range node (take (usedOf (length d)) d)
-    → e ++ drop (usedOf (length d)) d ≡ bufferAfter q f number range node d
-buffer-part q f number range node d e h =
+-- an operation that was made in the used part alone, its bytes by how many of these there are
+pub part-filled : (bs : ℕ → List ℕ) (d e : List ℕ) → let u = usedOf (length d) in e ≡ filled (take u d) (bs (usedOf (length (take u d))))
+    → e ++ drop u d ≡ filled d (bs u)
+part-filled bs d e h =
     let u = usedOf (length d) in
     let l : usedOf (length (take u d)) ≡ u = ap (λ (n : ℕ). usedOf n) (length-take-le u d (used-within (length d))) ∙ used-all u (used-small (length d)) in
-    let bs : ℕ → List ℕ = λ n. bytesBy (matchOutcome q f number range node) n (foundMatch q f (foundRule q number) range node) in
     ap (λ (x : List ℕ). x ++ drop u d) (h ∙ ap (λ (n : ℕ). filled (take u d) (bs n)) l) ∙ used-part d (bs u)
+
+pub buffer-part : (q : Rules) (f : File) (number : ℕ) (range : Restriction) (node : ℕ) (d e : List ℕ) → e ≡ bufferAfter q f number range node (take (usedOf (length d)) d)
+    → e ++ drop (usedOf (length d)) d ≡ bufferAfter q f number range node d
+buffer-part q f number range node =
+    part-filled (λ n. bytesBy (matchOutcome q f number range node) n (foundMatch q f (foundRule q number) range node))

@@ -57,6 +57,10 @@ alone (node i k s e cs r) = node i k s e none none
 abbrev pub nameToken : List ℕ → Elems → ℕ → Elems
 nameToken facts tree e = cond (hasFact facts 5 e 0) (alone (elementAt (factValue facts 5 e 0 1) tree)) none
 
+-- "6 node, module"; 0 where there is none
+abbrev pub moduleOf : List ℕ → ℕ → ℕ
+moduleOf facts e = factValue facts 6 e 0 1
+
 -- the file's words are a well-formed tree, and the index is that of its facts
 pub record FileOf (words facts index : List ℕ) : Type 0 where
   pub formed : WellFormed words

@@ -11,6 +11,7 @@ use lib.ListN.{drop}
 use lib.Dec.{eqb, leb, ltb}
 use borrow.Author.Tests.{eqb-true, eqb-false, eq-eqb, ne-eqb, leb-true, leb-false, le-leb, lt-ltb}
 use Rattle.words.proofs.TestLaws.{low-or, same-or, never, and-both}
+use Rattle.words.proofs.TextLaws.{eqb-sym}
 use Rattle.syntax.specs.Parts.{span}
 use Rattle.syntax.specs.Trees.{Elems, none, token, node, size, words, tree}
 use Rattle.syntax.specs.Accessors.{rangeOf, some, elementAt, byItself}
@@ -101,9 +102,6 @@ module _ (words : List ℕ) (row s e : ℕ) where
   held-nowhere u = ap (λ (x : List Binding). holder 0 x s e) (sym (append-nil (bindingsIn words row))) ∙ u [] ∙ holder-end 8
 
 -- PLACES: a row is kept where a match has come to if its state and its slot say so
-eqb-sym : (a b : ℕ) → eqb a b ≡ eqb b a
-eqb-sym a b = same-or a b (λ e. rw (eq-eqb a b e, eq-eqb b a (sym e))) (λ n. rw (ne-eqb a b n, ne-eqb b a (λ e. n (sym e))))
-
 module _ (t : Elems) (words : List ℕ) (count : ℕ) (given : Candidates t words count) where
   -- two rows of one pair are one
   one-pair : (i j : ℕ) → i < count → j < count → (i ≡ j → ⊥) → (eqb (field words i 0) (field words j 0) && eqb (field words i 1) (field words j 1)) ≡ false
@@ -127,7 +125,7 @@ module _ (t : Elems) (words : List ℕ) (count : ℕ) (given : Candidates t word
       (λ q. rw (q, eq-eqb (field words (s - 3) 0) (field words (s - 3) 0) refl, eq-eqb (field words (s - 3) 1) (field words (s - 3) 1) refl, eq-eqb s s refl, ne-eqb s 2 (λ z. omega arith)) (eqb-sym k l))
       (λ ne. rw (one-pair (s - 3) (u - 3) (omega arith) (omega arith) (λ z. ne (omega arith)), ne-eqb u s ne))
 
-  same-place : (s u k l : ℕ) → 2 ≤ s → s < 3 + count → 2 ≤ u → u < 3 + count → same (placeOf words s k) (placeOf words u l) ≡ (eqb u s && (eqb s 2 || eqb l k))
+  pub same-place : (s u k l : ℕ) → 2 ≤ s → s < 3 + count → 2 ≤ u → u < 3 + count → same (placeOf words s k) (placeOf words u l) ≡ (eqb u s && (eqb s 2 || eqb l k))
   same-place s u k l a b d e =
       low-or s 3
       (λ p. let s2 : s ≡ 2 = omega arith in

@@ -10,7 +10,7 @@ use Rattle.rules.specs.declared.numbering.Found.{Found}
 use Rattle.rules.specs.declared.numbering.Found.the-variants.{NoSuchRule, At}
 use Rattle.resolving.specs.RulePaths.{sideAt}
 use Rattle.matcher.specs.FileFacts.{factValue}
-use Rattle.checks.specs.Given.{File, Rules}
+use Rattle.checks.specs.Given.{Rules}
 use Rattle.match_node.specs.RuleMatch.{rootOf, templateForm}
 use Rattle.templates.specs.Pieces.{Piece, text, path, hole, pieces}
 use Rattle.rendering.specs.Texts.{Fragment, fixed, captured}
@@ -45,7 +45,3 @@ kindOf (node i k s e cs r) = k
 abbrev pub ruleKind : Rules → Found → ℕ
 ruleKind q NoSuchRule = 0
 ruleKind q (At r) = kindOf (rootOf (pairAt (r .pair) (q .directory) (q .words) (q .bytes)) 1 (templateForm (r .form) (r .template)))
-
--- "6 node, module", of the matched node
-abbrev pub moduleOf : File → ℕ → ℕ
-moduleOf f n = factValue (f .facts) 6 n 0 1

@@ -15,7 +15,8 @@ use Rattle.words.proofs.TestLaws.{low-or, never}
 use Rattle.rendering.specs.Traces.{Trace, done, reach, _then_}
 use Rattle.rendering.proofs.RoomLaws.{then-assoc}
 use Rattle.rendering.proofs.TraceLaws.{reach-done-then}
-use Rattle.rows.specs.Rows.{World, rowWord, bindingWord, bindingIn, isNested, rowTrace}
+use Rattle.nester.specs.Rows.{field, bindingIn}
+use Rattle.rows.specs.Rows.{World, bindingWord, isNested, rowTrace}
 use Rattle.rows.specs.Frames.{frameWord, beginOf, fillingOf, nextOf, fromOf, entered, rowPassed, slotEnded, Grows, restFrom, Keeps}
 use Rattle.rows.proofs.FrameLaws.{word-before, Entered, enters, stays-trans, stays-before, RowPasses, passes-row, SlotEnds, ends-slot}
 use Rattle.rows.proofs.RowLaws.{skip-to, fill-nested, fill-end}
@@ -104,7 +105,7 @@ module _ {W : World} {rows : List ℕ} {end k : ℕ} {tree text frames out : Lis
 
         -- the file's bytes before it
         head : List ℕ
-        head = part text (fromOf frames k) (startOf (drop (3 * rowWord rows j 0) tree))
+        head = part text (fromOf frames k) (startOf (drop (3 * field rows j 0) tree))
 
         after : ℕ → Trace
         after s = rowTrace W j then restFrom W k (W .endOf j) (j + 1) s
@@ -120,18 +121,18 @@ module _ {W : World} {rows : List ℕ} {end k : ℕ} {tree text frames out : Lis
             ∙ ap (λ (x : List ℕ). done (part x from start) then (rowTrace W j then restFrom W k (W .endOf j) (j + 1) s)) (p .shows .file)
             ∙ ap (λ (x : ℕ). done (part text from x) then (rowTrace W j then restFrom W k (W .endOf j) (j + 1) s)) (p .shows .starts j inside)
 
-        pub before-short : (out′ : List ℕ) → Short out out′ at (part text (fromOf frames k) (startOf (drop (3 * rowWord rows j 0) tree)))
+        pub before-short : (out′ : List ℕ) → Short out out′ at (part text (fromOf frames k) (startOf (drop (3 * field rows j 0) tree)))
             → length out < beginOf frames k + reach (rowTrace W k)
         unfolding head
         before-short out′ s =
             omega (arith, s .short, within-reaches (p .filling .within), ap reach left-is, reach-done-then head (after (p .filling .within .slot)))
 
         pub before-nests : (frames′ out′ : List ℕ) (n : ℕ) → 22 * k + 22 ≤ length frames → 22 * j + 22 ≤ length frames
-            → Grows out out′ at n (part text (fromOf frames k) (startOf (drop (3 * rowWord rows j 0) tree)))
-            → frames′ ≡ entered (rowPassed frames k j (endOf (drop (3 * rowWord rows j 0) tree))) j n → Nests W k j frames frames′ out′ n
+            → Grows out out′ at n (part text (fromOf frames k) (startOf (drop (3 * field rows j 0) tree)))
+            → frames′ ≡ entered (rowPassed frames k j (endOf (drop (3 * field rows j 0) tree))) j n → Nests W k j frames frames′ out′ n
         unfolding head after
         before-nests frames′ out′ n h l g e =
-            let from = endOf (drop (3 * rowWord rows j 0) tree) in
+            let from = endOf (drop (3 * field rows j 0) tree) in
             let x = enters-row k j from n frames frames′ h l e in let f = x .middle in let a = x .passes in let b = x .entered-at in
             let behind : k < j = omega (arith, p .filling .behind) in
             let word : (i : ℕ) → i < 22 → frameWord frames′ k i ≡ frameWord f k i = λ i m. word-before f frames′ j k i behind m (b .before) in

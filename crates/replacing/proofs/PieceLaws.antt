@@ -14,7 +14,8 @@ use Rattle.rendering.specs.Texts.{Fragment, fixed, captured, prefix}
 use Rattle.rendering.specs.Traces.{Trace, done, reach, _then_, fragmentTrace, stopped}
 use Rattle.rendering.proofs.TraceLaws.{done-then-done, reach-done-then}
 use Rattle.rows.specs.Told.{toldSlot, toldReceiver, toldText, isFixed, fragmentOf}
-use Rattle.rows.specs.Rows.{World, bindingWord, bindingIn, slotFilling, slotHole}
+use Rattle.nester.specs.Rows.{bindingIn}
+use Rattle.rows.specs.Rows.{World, bindingWord, slotFilling, slotHole}
 use Rattle.rows.specs.Frames.{beginOf, passedOf, fillingOf, nextOf, slotStart, slotEnd, piecePassed, slotBegun, between, Grows, came, Keeps}
 use Rattle.rows.proofs.FrameLaws.{PiecePasses, passes-piece, SlotBegins, begins-slot}
 use Rattle.rows.proofs.BetweenLaws.{between-same}
@@ -101,16 +102,16 @@ piece-as {W} {rows} {k} {f} {g} {frames} {out} {at} e p = subst (λ (x : Fragmen
 -- ---- a placeholder
 
 module _ {W : World} {rows : List ℕ} {k slot : ℕ} {b : Bool} {frames out : List ℕ} {at : ℕ} (p : AtPiece W rows k (captured slot b) frames out at) where
-  pub unbound-left : (frames′ out′ : List ℕ) → bindingWord rows k slot 0 ≡ 0 → PieceLeft W k frames frames′ out out′ at Unbound
+  pub unbound-left : (frames′ out′ : List ℕ) → (bindingWord rows k slot 0 ≡ 1 → ⊥) → PieceLeft W k frames frames′ out out′ at Unbound
   unbound-left frames′ out′ h =
       let e : bindingIn (W .rows) k slot .bound ≡ false =
-      ap (λ (l : List ℕ). bindingIn l k slot .bound) (p .reads) ∙ rw (eq-eqb (bindingWord rows k slot 0) 0 h) in
+      ap (λ (l : List ℕ). bindingIn l k slot .bound) (p .reads) ∙ rw (ne-eqb (bindingWord rows k slot 0) 1 h) in
       let n : (at - beginOf frames k) + 0 ≡ at - beginOf frames k = omega arith in
       passing-stops (p .passing) (captured slot b) (p .others) (p .here) 0 Event.Unbound (hole-unbound W k slot b e) ∙ ap (λ (m : ℕ). stopped m Event.Unbound) n
 
-  module _ (bound : bindingWord rows k slot 0 ≡ 0 → ⊥) where
+  module _ (bound : bindingWord rows k slot 0 ≡ 1) where
     is-bound : bindingIn (W .rows) k slot .bound ≡ true
-    is-bound = ap (λ (l : List ℕ). bindingIn l k slot .bound) (p .reads) ∙ rw (ne-eqb (bindingWord rows k slot 0) 0 bound)
+    is-bound = ap (λ (l : List ℕ). bindingIn l k slot .bound) (p .reads) ∙ rw (eq-eqb (bindingWord rows k slot 0) 1 bound)
 
     same-prefix : prefix (bindingIn (W .rows) k slot) b ≡ prefix (bindingIn rows k slot) b
     same-prefix = ap (λ (l : List ℕ). prefix (bindingIn l k slot) b) (p .reads)

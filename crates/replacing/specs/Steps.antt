@@ -10,7 +10,8 @@ use Rattle.words.specs.Fields.{startOf, endOf}
 use Rattle.rendering.specs.Events.{Event}
 use Rattle.rendering.specs.Texts.{Fragment}
 use Rattle.rows.specs.Told.{fragmentsOf}
-use Rattle.rows.specs.Rows.{World, rowWord, NestedBefore}
+use Rattle.nester.specs.Rows.{field}
+use Rattle.rows.specs.Rows.{World, NestedBefore}
 use Rattle.rows.specs.Frames.{beginOf, passedOf, came, Passing, Filling, Waiting, Standing, Ends, Bursts}
 use Rattle.replacing.specs.declared.pieces.Turn.{Turn}
 use Rattle.replacing.specs.declared.pieces.Turn.the-variants.{At, Nested, Unbound, NoRoom}
@@ -44,8 +45,8 @@ pub record Shows (W : World) (rows : List ℕ) (end k : ℕ) (tree text : List �
   pub inside : k < W .count
   pub few : W .count ≤ 1024
   pub file : W .file ≡ text
-  pub starts : (j : ℕ) → j < W .count → W .startOf j ≡ startOf (drop (3 * rowWord rows j 0) tree)
-  pub ends : (j : ℕ) → j < W .count → W .endOf j ≡ endOf (drop (3 * rowWord rows j 0) tree)
+  pub starts : (j : ℕ) → j < W .count → W .startOf j ≡ startOf (drop (3 * field rows j 0) tree)
+  pub ends : (j : ℕ) → j < W .count → W .endOf j ≡ endOf (drop (3 * field rows j 0) tree)
   pub nested : NestedBefore W k end
   pub last : end ≤ W .count
 

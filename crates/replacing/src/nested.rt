@@ -11,7 +11,8 @@ ghost use Prim.Native.Nat.{_*_, _≤_, _<_};
 ghost use lib.ListN.{length, drop};
 ghost use Rattle.words.specs.Fields.{startOf, endOf};
 ghost use Rattle.words.specs.Texts.{part};
-ghost use Rattle.rows.specs.Rows.{World, rowWord, bindingWord};
+ghost use Rattle.nester.specs.Rows.{field};
+ghost use Rattle.rows.specs.Rows.{World, bindingWord};
 ghost use Rattle.rows.specs.Frames.{passedOf, fromOf, originOf, entered, rowPassed, slotEnded, Keeps};
 ghost use Rattle.replacing.specs.Laying.{Lays, FramesThen};
 ghost use Rattle.replacing.specs.Steps.{AtCaptured, CapturedLeft};
@@ -54,8 +55,8 @@ fn put_before(
     at: usize,
 ) -> Placed
     requires { ⌜ (k ≤ 1023) × (j ≤ 1023) × (22528 ≤ length (now frames)) × (length (now out) ≤ 1048576) ⌝ }
-    ensures { λ r. ⌜ Lays (now (out .entry)) at (part (now (text .entry)) (fromOf (now (frames .entry)) k) (startOf (drop (3 * rowWord (now (rows .entry)) j 0) (now (tree .entry))))) (now (out .exit)) r ⌝ }
-    ensures { λ r. ⌜ FramesThen (now (frames .entry)) (entered (rowPassed (now (frames .entry)) k j (endOf (drop (3 * rowWord (now (rows .entry)) j 0) (now (tree .entry))))) j) (now (frames .exit)) r ⌝ }
+    ensures { λ r. ⌜ Lays (now (out .entry)) at (part (now (text .entry)) (fromOf (now (frames .entry)) k) (startOf (drop (3 * field (now (rows .entry)) j 0) (now (tree .entry))))) (now (out .exit)) r ⌝ }
+    ensures { λ r. ⌜ FramesThen (now (frames .entry)) (entered (rowPassed (now (frames .entry)) k j (endOf (drop (3 * field (now (rows .entry)) j 0) (now (tree .entry))))) j) (now (frames .exit)) r ⌝ }
 {
     let element = fields::tail(tree, 3 * (matches::word(rows, j, 0) as usize));
     let from = frames::word(frames, k, 4);

@@ -9,7 +9,8 @@ ghost use Prim.Native.Nat.{_+_, _-_, _≤_, _<_};
 ghost use lib.ListN.{length, replicate};
 ghost use Rattle.rendering.specs.Texts.{captured, reference, prefix};
 ghost use Rattle.rows.specs.Told.{fragmentOf};
-ghost use Rattle.rows.specs.Rows.{World, bindingIn};
+ghost use Rattle.nester.specs.Rows.{bindingIn};
+ghost use Rattle.rows.specs.Rows.{World};
 ghost use Rattle.rows.specs.Frames.{passedOf, slotStart, slotEnd, piecePassed, between, Keeps};
 ghost use Rattle.replacing.specs.Laying.{Lays, FramesThen};
 ghost use Rattle.replacing.specs.Steps.{turnBehind, AtPiece, PieceLeft};
@@ -117,7 +118,7 @@ fn put_hole(
     ensures { λ _. ⌜ Keeps k (now (frames .entry)) (now (frames .exit)) at (now (out .entry)) (now (out .exit)) ⌝ }
     ensures { λ r. ⌜ ((W : World) → AtPiece W (now (rows .entry)) k (captured slot receiver) (now (frames .entry)) (now (out .entry)) at → PieceLeft W k (now (frames .entry)) (now (frames .exit)) (now (out .entry)) (now (out .exit)) at r) ⌝ }
 {
-    if matches::binding(rows, k, slot, 0) == 0 {
+    if matches::binding(rows, k, slot, 0) != 1 {
         return Turn::Unbound;
     }
     match put_prefix(rows, k, slot, receiver, out, at) {

@@ -1,4 +1,5 @@
 // The bytes of an answer, and whether they are the expected ones.
+use edits::EditedNumbers;
 use ssr::NamedPlaceholder;
 use ssr::RawCode;
 use ssr::ReadTokens;
@@ -149,6 +150,17 @@ pub fn is_resolved(answer: ResolvedElement, expected: &[u8]) -> bool {
         answer.typed,
         answer.qualifier_type,
         answer.contains_self,
+    ];
+    is_words(&words, expected)
+}
+
+// Whether the answer of a job has the expected bytes, and then 0.
+pub fn is_edited(answer: EditedNumbers, expected: &[u8]) -> bool {
+    let words = [
+        answer.refusal,
+        answer.asked,
+        answer.kind,
+        low(answer.length),
     ];
     is_words(&words, expected)
 }

@@ -17,7 +17,8 @@ use Rattle.rendering.specs.Events.{Unbound, concat}
 use Rattle.rendering.specs.Texts.{Fragment, captured, isCaptured, prefix, partsOf}
 use Rattle.rendering.specs.Traces.{Trace, done, stopped, _then_, Traces, all, stops, first, fragmentTrace, tracesOf}
 use Rattle.rows.specs.Told.{isFixed, toldText, toldSlot, toldReceiver, fragmentOf, fragmentsOf}
-use Rattle.rows.specs.Rows.{World, bindingIn, slotFilling, slotHole}
+use Rattle.nester.specs.Rows.{bindingIn}
+use Rattle.rows.specs.Rows.{World, slotFilling, slotHole}
 use Rattle.rows.specs.Frames.{frameWord, slotStart, slotEnd, between, SlotStands}
 use Rattle.rows.proofs.BetweenLaws.{length-between}
 use Rattle.rerendering.specs.Parts.{slotLength, capturedLength, partWord, measuredParts, Measurable}

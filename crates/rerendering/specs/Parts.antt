@@ -9,7 +9,7 @@ use lib.ListN.{length, getD}
 use Rattle.parentheses.specs.Parentheses.{Part, partsOf}
 use Rattle.rendering.specs.Texts.{prefix}
 use Rattle.rows.specs.Told.{isFixed, toldText, toldSlot, toldReceiver}
-use Rattle.rows.specs.Rows.{bindingIn}
+use Rattle.nester.specs.Rows.{bindingIn}
 use Rattle.rows.specs.Frames.{slotStart, slotEnd}
 
 -- how many bytes a slot's text has; its start is told with one more

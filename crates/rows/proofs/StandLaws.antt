@@ -15,7 +15,8 @@ use Rattle.rendering.specs.Texts.{Fragment, captured, prefix}
 use Rattle.rendering.specs.Traces.{Trace, done, stopped, reach, _then_, fragmentTrace, tracesOf}
 use Rattle.rendering.proofs.RoomLaws.{nothing-then, then-assoc, concat-append}
 use Rattle.rendering.proofs.TraceLaws.{done-then-done, done-then-stopped, reach-done-then, one-more, one-stops, one-reaches, match-stops, match-reach, reachAll}
-use Rattle.rows.specs.Rows.{World, bindingIn, isNested, slotFilling, slotHole, rowTrace}
+use Rattle.nester.specs.Rows.{bindingIn}
+use Rattle.rows.specs.Rows.{World, isNested, slotFilling, slotHole, rowTrace}
 use Rattle.rows.specs.Frames.{beginOf, passedOf, fillingOf, nextOf, fromOf, originOf, slotStart, slotEnd, between, Grows, SlotStands, Begun, Passing, Within, restFrom, Filling, Waiting}
 use Rattle.rows.proofs.FrameLaws.{Entered, Stays, SlotBegins, PiecePasses, SlotEnds}
 use Rattle.rows.proofs.BetweenLaws.{length-between, between-same, between-none, between-end, grows-between}

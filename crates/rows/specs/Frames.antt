@@ -11,7 +11,8 @@ use lib.ListN.{length, take, drop, getD, set}
 use Rattle.rendering.specs.Events.{Event, concat}
 use Rattle.rendering.specs.Texts.{Fragment, captured, prefix}
 use Rattle.rendering.specs.Traces.{Trace, done, stopped, reach, _then_, all, tracesOf}
-use Rattle.rows.specs.Rows.{World, bindingIn, isNested, fillTrace, slotFilling, slotHole, rowTrace}
+use Rattle.nester.specs.Rows.{bindingIn}
+use Rattle.rows.specs.Rows.{World, isNested, fillTrace, slotFilling, slotHole, rowTrace}
 
 abbrev pub frameWord : List ℕ → ℕ → ℕ → ℕ
 frameWord frames k i = getD frames (22 * k + i) 0

@@ -1,36 +1,23 @@
--- A job's matches in flat words, by node and then rule, as rendering reads them. A row has 44 words: node, rule, state (0 no match, 1 dropped,
--- 2 outer, 3 and more nested in the row of the number less 3), the slot that it is nested in, and eight bindings of five words each.
+-- A job's matches in flat words, by node and then rule, as rendering reads them: nester's rows, once they are nested.
 -- Assumes nothing.
 use Prim.Native.Nat.{ℕ, zero, suc, _+_, _-_, _*_, _<_}
 use mathlib.Core.Path.{_≡_}
-use mathlib.Core.Bool.{Bool, true, cond, not, _&&_}
+use mathlib.Core.Bool.{Bool, true, cond, _&&_}
 use mathlib.Core.List.{List}
 use lib.Dec.{eqb}
-use lib.ListN.{getD}
 use Rattle.words.specs.Texts.{part}
-use Rattle.captures.specs.declared.Binding.{Binding}
 use Rattle.parses.specs.Parses.{Lookup}
+use Rattle.nester.specs.Rows.{field, bindingIn}
 use Rattle.rendering.specs.Texts.{Fragment}
 use Rattle.rendering.specs.Traces.{Trace, done, _then_, holeTrace, matchTrace}
 
-abbrev pub rowWord : List ℕ → ℕ → ℕ → ℕ
-rowWord rows k i = getD rows (44 * k + i) 0
-
+-- word i of the binding of a slot
 abbrev pub bindingWord : List ℕ → ℕ → ℕ → ℕ → ℕ
-bindingWord rows k slot i = getD rows (44 * k + (5 * slot + (i + 4))) 0
-
-abbrev pub bindingIn : List ℕ → ℕ → ℕ → Binding
-bindingIn rows k slot = record {
-  bound = not (eqb (bindingWord rows k slot 0) 0);
-  start = bindingWord rows k slot 1;
-  end = bindingWord rows k slot 2;
-  stars = bindingWord rows k slot 3;
-  «self_kind» = bindingWord rows k slot 4;
-}
+bindingWord rows k slot i = field rows k (4 + i + slot * 5)
 
 -- row j is nested in a slot of row k
 abbrev pub isNested : List ℕ → ℕ → ℕ → ℕ → Bool
-isNested rows k slot j = eqb (rowWord rows j 2) (k + 3) && eqb (rowWord rows j 3) slot
+isNested rows k slot j = eqb (field rows j 2) (k + 3) && eqb (field rows j 3) slot
 
 -- the rows, how many there are, the file's text, and for each row the range of its node, its template's fragments and kind, and its comments;
 -- and the parses

@@ -5,22 +5,23 @@ ghost use mathlib.Core.Bool.{true, false};
 ghost use Prim.Native.Nat.{ℕ, _+_, _*_, _≤_, _<_};
 ghost use lib.ListN.{length};
 ghost use Rattle.rendering.specs.Texts.{prefix};
-ghost use Rattle.rows.specs.Rows.{rowWord, bindingWord, bindingIn, isNested};
+ghost use Rattle.nester.specs.Rows.{field, bindingIn};
+ghost use Rattle.rows.specs.Rows.{bindingWord, isNested};
 
 // A word of a row: 0 its node, 1 its rule, 2 its state, 3 the slot that it is nested in.
 pub fn word(rows: &[u32], k: usize, i: usize) -> u32
     requires { ⌜ (k ≤ 1024) × (i < 44) ⌝ }
-    ensures { λ r. ⌜ r ≡ rowWord (now (rows .entry)) k i ⌝ }
+    ensures { λ r. ⌜ r ≡ field (now (rows .entry)) k i ⌝ }
 {
-    fields::word(rows, 44 * k + i)
+    fields::word(rows, k * 44 + i)
 }
 
-// A word of a binding: 0 whether it is bound, 1 start, 2 end, 3 stars, 4 self kind.
+// A word of a binding: 0 whether it is bound (1 where it is), 1 start, 2 end, 3 stars, 4 self kind.
 pub fn binding(rows: &[u32], k: usize, slot: usize, i: usize) -> u32
     requires { ⌜ (k ≤ 1024) × (slot < 8) × (i < 5) ⌝ }
     ensures { λ r. ⌜ r ≡ bindingWord (now (rows .entry)) k slot i ⌝ }
 {
-    fields::word(rows, 44 * k + (5 * slot + (i + 4)))
+    fields::word(rows, k * 44 + (4 + i + slot * 5))
 }
 
 // Whether row j is nested in a slot of row k.

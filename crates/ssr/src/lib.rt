@@ -2,6 +2,7 @@
 // include/ssr.h declares them.
 pub mod rule_exports; // rule_exports.rt: the operations on rules
 pub mod match_exports; // match_exports.rt: the operation that matches
+pub mod job_exports; // job_exports.rt: the operation that writes an edit list
 
 use parsing::patterns;
 use parsing::patterns::Placeholder;

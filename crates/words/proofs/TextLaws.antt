@@ -89,7 +89,7 @@ equal-same (a ∷ x) = rw (eq-eqb a a refl, equal-same x)
 
 -- ---- a text that begins with another
 
-eqb-sym : (a b : ℕ) → eqb a b ≡ eqb b a
+pub eqb-sym : (a b : ℕ) → eqb a b ≡ eqb b a
 eqb-sym a b = by (eqb a b) refl
   where
     by : (x : Bool) → eqb a b ≡ x → eqb a b ≡ eqb b a

@@ -8,7 +8,8 @@ use lib.ListN.{length, getD}
 use denote.Ref.{now}
 use Rattle.resolving.proofs.FailLaws.{roomy-after}
 use Rattle.checks.specs.Given.{fileOf, rulesOf}
-use Rattle.gathering.specs.Told.{moduleOf, Told}
+use Rattle.matcher.specs.FileFacts.{moduleOf}
+use Rattle.gathering.specs.Told.{Told}
 use Rattle.gathering.specs.Gathered.{attemptOf}
 use Rattle.gathering.proofs.GatherLaws.{told-more}
 use Rattle.gathering.proofs.gathering.gather_all.Statement.{statement}

@@ -12,7 +12,7 @@ use Rattle.captures.specs.Attempts.{Attempt}
 use Rattle.checks.specs.Given.{fileOf}
 use Rattle.match_node.specs.RuleMatch.{ruleMatch}
 use Rattle.candidates.proofs.CandidateLaws.{node-below}
-use Rattle.gathering.specs.Told.{moduleOf}
+use Rattle.matcher.specs.FileFacts.{moduleOf}
 use Rattle.gathering.specs.Gathered.{Gathers}
 use Rattle.gathering.proofs.GatherLaws.{gathers-none, gathers-other, gathers-more}
 use Rattle.gathering.proofs.gathering.gather_ready.Statement.{statement}

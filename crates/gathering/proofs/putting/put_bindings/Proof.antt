@@ -6,7 +6,7 @@ use native.Mathlib.Omega.{arith}
 use lib.ListN.{getD}
 use borrow.Author.Needs.{needs}
 use Rattle.captures.specs.Effects.{unbound}
-use Rattle.rows.specs.Rows.{bindingIn}
+use Rattle.nester.specs.Rows.{bindingIn}
 use Rattle.gathering.specs.Gathered.{SameBut}
 use Rattle.gathering.proofs.TableLaws.{but-none, but-then, but-less}
 use Rattle.gathering.proofs.RowLaws.{bindings-more}
@@ -15,7 +15,7 @@ use Rattle.gathering.proofs.putting.put_bindings.Tie as tie
 
 abbrev Inv-loop : tie.InvT-loop
 Inv-loop rows₀ k s slot₀ rows slot =
-    (slot ≤ 8) × SameBut (44 * k + 4) 40 rows₀ rows × ((i : ℕ) → i < slot → bindingIn rows k i ≡ getD (s .bindings) i unbound)
+    (slot ≤ 8) × SameBut (k * 44 + 4) 40 rows₀ rows × ((i : ℕ) → i < slot → bindingIn rows k i ≡ getD (s .bindings) i unbound)
 
 abbrev μ-loop : tie.MeasureT-loop
 μ-loop rows₀ k s slot₀ rows slot = 8 - slot

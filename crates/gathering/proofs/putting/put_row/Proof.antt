@@ -15,7 +15,7 @@ use Rattle.gathering.proofs.putting.put_row.Tie as tie
 returns : tie.Need-returns
 returns c =
     let c₂ = c .before .before in let c₄ = c₂ .before .before in let s = c₄ .before .before .before in let a = s .args in
-    let l = now (a .rows) in let at = 44 * a .k in let f = c₄ .flag in let p = c₂ .put-bindings .ensures in
+    let l = now (a .rows) in let at = a .k * 44 in let f = c₄ .flag in let p = c₂ .put-bindings .ensures in
     let same = but-less at 44 (p .1) (omega arith) (omega arith) in
     let room : at + 4 ≤ length l = omega (arith, s .pre) in (
       λ x end g. row-is (a .r) end _ (a .node) (a .rule) (a .k)

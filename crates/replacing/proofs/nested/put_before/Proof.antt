@@ -9,7 +9,7 @@ use Prim.Native.Nat.{ℕ, _*_}
 use lib.ListN.{length, drop}
 use Rattle.words.specs.Fields.{startOf}
 use Rattle.words.specs.Texts.{part}
-use Rattle.rows.specs.Rows.{rowWord}
+use Rattle.nester.specs.Rows.{field}
 use Rattle.rows.specs.Frames.{fromOf}
 use Rattle.rows.proofs.FrameLaws.{passes-row}
 use Rattle.replacing.specs.Laying.{Lays}
@@ -18,7 +18,7 @@ use Rattle.replacing.proofs.nested.put_before.Statement.{statement}
 use Rattle.replacing.proofs.nested.put_before.Tie as tie
 
 laid-is : (c : tie.After-put) → let a = c .before .before .before .before .before .before .before .before .before .before .before .before .before .args in
-    Lays (now (a .out)) (a .at) (part (now (a .text)) (fromOf (now (a .frames)) (a .k)) (startOf (drop (3 * rowWord (now (a .rows)) (a .j) 0) (now (a .tree)))))
+    Lays (now (a .out)) (a .at) (part (now (a .text)) (fromOf (now (a .frames)) (a .k)) (startOf (drop (3 * field (now (a .rows)) (a .j) 0) (now (a .tree)))))
     (c .put .last .0) (c .put .result)
 laid-is c =
     let c₁ = c .before in let c₂ = c₁ .before in

@@ -15,7 +15,7 @@ returns : tie.Need-returns
 returns c =
     let c₁ = c .before in let a = c₁ .before .before .before .before .args in (
       keeps-all (a .k) (a .at) (now (a .frames)) (now (a .out)),
-      λ W p. unbound-left p (now (a .frames)) (now (a .out)) (sym (c₁ .binding .ensures) ∙ c .if1 .taken),
+      λ W p. unbound-left p (now (a .frames)) (now (a .out)) (λ e. c .if1 .taken (c₁ .binding .ensures ∙ e)),
     )
 
 copy-slot-requires : tie.Need-copy-slot-requires
@@ -38,7 +38,7 @@ returns-2 c =
       keeps-piece (a .k) (a .at) f (c₅ .copy-slot .last .0) out (c₅ .copy-slot .last .1 .1 .1 .0) _ (c₅ .copy-slot .result) (omega (arith, s .pre))
           (lays-then out (c₁₆ .put-prefix .last .1 .1 .1 .1 .0) (c₅ .copy-slot .last .1 .1 .1 .0) (a .at) (c₁₂ .behind .given .0 .0) _ _ (c₅ .copy-slot .result) g (l .0)) (l .1),
       λ W p. rw (c .turn-behind .ensures)
-          (again-left p (λ e. c₁₈ .if1 .left (c₁₈ .before .binding .ensures ∙ e)) (c₅ .copy-slot .last .0) (c₁₆ .put-prefix .last .1 .1 .1 .1 .0) (c₅ .copy-slot .last .1 .1 .1 .0)
+          (again-left p (sym (c₁₈ .before .binding .ensures) ∙ c₁₈ .if1 .left) (c₅ .copy-slot .last .0) (c₁₆ .put-prefix .last .1 .1 .1 .1 .0) (c₅ .copy-slot .last .1 .1 .1 .0)
           (c₁₂ .behind .given .0 .0) (c₅ .copy-slot .result) (omega (arith, s .pre)) (s .pre .0 .1) h g (l .0) (l .1)),
     )
 
@@ -58,7 +58,7 @@ returns-3 c =
     let b = rw (c₄ .binding2 .ensures) at
     (slot-begun f (c₂ .begin-slot .last .0) (a .k) (a .slot) (c₄ .binding2 .result) (c₉ .behind .given .0 .0) (omega (arith, s .pre)) (c₂ .begin-slot .ensures)) in (
       keeps-begun (a .k) (a .slot) _ (a .at) (c₉ .behind .given .0 .0) f (c₂ .begin-slot .last .0) out (c₁₃ .put-prefix .last .1 .1 .1 .1 .0) _ g b,
-      λ W p. begun-left p (λ e. c₁₅ .if1 .left (c₁₅ .before .binding .ensures ∙ e)) (c₂ .begin-slot .last .0) (c₁₃ .put-prefix .last .1 .1 .1 .1 .0)
+      λ W p. begun-left p (sym (c₁₅ .before .binding .ensures) ∙ c₁₅ .if1 .left) (c₂ .begin-slot .last .0) (c₁₃ .put-prefix .last .1 .1 .1 .1 .0)
           (c₉ .behind .given .0 .0) (s .pre .0 .1) g b,
     )
 
@@ -67,7 +67,7 @@ returns-4 c =
     let c₄ = c .before .before .before .before in let c₆ = c₄ .before .before in let a = c₆ .before .before .before .before .before .args in
     let f = now (a .frames) in let out = now (a .out) in let out′ = c₄ .put-prefix .last .1 .1 .1 .1 .0 in
     let s = rw (c .enum-told .given .1) at (c₄ .put-prefix .ensures) in
-    (keeps-short (a .k) (a .at) f out out′ _ s, λ W p. prefix-left p (λ e. c₆ .if1 .left (c₆ .before .binding .ensures ∙ e)) f out′ s)
+    (keeps-short (a .k) (a .at) f out out′ _ s, λ W p. prefix-left p (sym (c₆ .before .binding .ensures) ∙ c₆ .if1 .left) f out′ s)
 
 pub put-hole-spec : {M : Type 1} → statement M
 put-hole-spec =

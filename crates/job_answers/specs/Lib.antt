@@ -1,0 +1,3 @@
+pub mod Collected
+pub mod Answers
+pub mod Demand3

@@ -1,0 +1,1 @@
+// What a job answers, and demand 3.

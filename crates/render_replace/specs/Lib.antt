@@ -1,0 +1,4 @@
+pub mod Worlds
+pub mod Stacks
+pub mod Answers
+pub mod Turns

@@ -1,0 +1,3 @@
+-- Laws of the edits of rows.
+pub mod EditLaws
+pub mod ListLaws
