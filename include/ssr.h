@@ -35,8 +35,14 @@ extern "C" {
 /* How many lengths a row of the directory has. */
 #define SSR_ROW_LENGTHS 27
 
-/* The most bytes of `out` that are used. */
+/* The most rules that are left and candidates of a job, and how many words a candidate has. */
+#define SSR_RULES 16
+#define SSR_CANDIDATES 1024
+#define SSR_CANDIDATE_WORDS 2
+
+/* The most bytes of `out` that are used, and how many an edit has before its replacement. */
 #define SSR_BUFFER_BYTES 1048576
+#define SSR_EDIT_BYTES 12
 
 /* The refusals by document 01's numbers, each with its condition; 0 is no refusal. Each function below says
  * which of them it answers, in the order in which they are looked for.
@@ -73,7 +79,17 @@ typedef enum ssr_refusal {
     /* Of the rules that are left. */
     SSR_UNRESOLVED_PATH = 22,          /* a path that must resolve has no fact */
     /* Of what is asked for. */
-    SSR_NO_SUCH_NODE_OR_RULE = 23      /* no such node or rule, or a range whose start is after its end */
+    SSR_NO_SUCH_NODE_OR_RULE = 23,     /* no such node or rule, or a range whose start is after its end */
+    /* Of a job. */
+    SSR_TOO_MANY_RULES_OR_CANDIDATES = 24, /* over SSR_RULES rules or SSR_CANDIDATES candidates */
+    SSR_NO_SUCH_CANDIDATE = 25,        /* a candidate without such node or rule, or 23's range */
+    SSR_REPEATED_CANDIDATE = 26,       /* a pair of node and rule twice */
+    SSR_NO_TEMPLATE = 27,              /* a rule without template */
+    SSR_MALFORMED_PARSES = 28,         /* parses malformed, or kind and text repeated */
+    /* Of an edit list, as it is written. */
+    SSR_UNBOUND_PLACEHOLDER = 29,      /* a template placeholder unbound: the match never met it */
+    SSR_NO_ROOM = 30                   /* the next byte, laid behind the list so far and the unfinished texts
+                                          around it, does not fit */
 } ssr_refusal;
 
 /* A side of a rule. */
@@ -260,6 +276,50 @@ ssr_match_node_answer ssr_match_node(const uint32_t *directory, size_t directory
                                      size_t node, size_t rule,
                                      uint32_t range_given, size_t range_start, size_t range_end,
                                      uint8_t *out, size_t out_length);
+
+typedef struct ssr_job_answer {
+    uint32_t refusal;
+    uint32_t asked; /* 1 if a parse is missing: `out` holds the text to parse; else it holds the edit list */
+    uint32_t kind; /* the kind of its template's root: 64 to 1023 for an expression, up to 2047 for an item */
+    size_t length; /* how many bytes the text or the edit list has */
+} ssr_job_answer;
+
+/* A job: candidates are matched, what they match is nested and rendered, and the edit list is written.
+ *
+ * The candidates are SSR_CANDIDATE_WORDS words each, the number of a node of the file's tree and that of a
+ * rule that is left; their order is no matter. One that does not match adds nothing and is no refusal. The
+ * range is as in matching one node. The parses are words that point into the parse text: each has a kind, a
+ * text, and the ranges of all nodes of the tree that the text is parsed as, none if it does not parse.
+ *
+ * The edit list has one edit for each outer match, in rising order and without overlap. An edit is three
+ * words, little-endian, and the bytes of its replacement:
+ *   kind 5    the match's start in the file
+ *   kind 6    its end
+ *   kind 7    how many bytes the replacement has
+ * To apply the list, put each replacement in place of the bytes from start up to end. Without a match the
+ * list is empty.
+ *
+ * Where the rendering of a template whose root is an expression or an item has no parse, the answer is asked:
+ * `out` holds that text. Parse it as an expression or as an item, add that parse with the kind and the text
+ * that were answered (and without ranges if it does not parse) to those handed in, and call again; it is not
+ * asked for a second time.
+ *
+ * It uses less than 2 MB of stack.
+ * Refusals: the stages (1 to 15; 18 to 21, with those of the file's tree; 17; 22); then 24, 25, 26, 27, 28;
+ * then, as the list is written from front to back, the first that is met of 29, 30 and the answer asked.
+ */
+ssr_job_answer ssr_job(const uint32_t *directory, size_t directory_length,
+                       const uint32_t *words, size_t words_length,
+                       const uint8_t *bytes, size_t bytes_length,
+                       const uint8_t *fact_text, size_t fact_text_length,
+                       const uint32_t *tree, size_t tree_length,
+                       const uint8_t *text, size_t text_length,
+                       const uint32_t *facts, size_t facts_length,
+                       const uint32_t *parses, size_t parses_length,
+                       const uint8_t *parse_text, size_t parse_text_length,
+                       const uint32_t *candidates, size_t candidates_length,
+                       uint32_t range_given, size_t range_start, size_t range_end,
+                       uint8_t *out, size_t out_length);
 
 #ifdef __cplusplus
 }

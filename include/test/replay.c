@@ -63,10 +63,16 @@ HAS_FIELD(ssr_match_node_answer, matched, 4, 4);
 HAS_FIELD(ssr_match_node_answer, length, 8, 8);
 HAS_FIELD(ssr_match_node_answer, bindings, 16, 160);
 
+HAS_SIZE(ssr_job_answer, 24);
+HAS_FIELD(ssr_job_answer, refusal, 0, 4);
+HAS_FIELD(ssr_job_answer, asked, 4, 4);
+HAS_FIELD(ssr_job_answer, kind, 8, 4);
+HAS_FIELD(ssr_job_answer, length, 16, 8);
+
 /* Records. */
 
 /* The most slices of a call. */
-#define BLOCKS 8
+#define BLOCKS 11
 
 /* What is left of a record, and the blocks that its parts were copied into. */
 typedef struct record {
@@ -393,6 +399,36 @@ static int match_node(record *r)
     return is_answer(&a, next_part(r)) && is_stored(out.at, out.length, left);
 }
 
+static int job(record *r)
+{
+    word_slice directory = next_words(r);
+    word_slice words = next_words(r);
+    byte_slice bytes = next_bytes(r);
+    byte_slice fact_text = next_bytes(r);
+    word_slice tree = next_words(r);
+    byte_slice text = next_bytes(r);
+    word_slice facts = next_words(r);
+    word_slice parses = next_words(r);
+    byte_slice parse_text = next_bytes(r);
+    word_slice candidates = next_words(r);
+    uint32_t range_given = next_number(r);
+    size_t range_start = next_number(r);
+    size_t range_end = next_number(r);
+    byte_slice out = next_buffer(r);
+    part left = next_part(r);
+    ssr_job_answer found =
+        ssr_job(directory.at, directory.length, words.at, words.length, bytes.at, bytes.length,
+                fact_text.at, fact_text.length, tree.at, tree.length, text.at, text.length,
+                facts.at, facts.length, parses.at, parses.length, parse_text.at, parse_text.length,
+                candidates.at, candidates.length, range_given, range_start, range_end, out.at, out.length);
+    answer a = {{0}, 0, 0};
+    lay(&a, found.refusal);
+    lay(&a, found.asked);
+    lay(&a, found.kind);
+    lay(&a, found.length);
+    return is_answer(&a, next_part(r)) && is_stored(out.at, out.length, left);
+}
+
 /* The sample. */
 
 /* An operation, and how many of its answers were equal. */
@@ -403,7 +439,7 @@ typedef struct operation {
     unsigned long different;
 } operation;
 
-#define OPERATIONS 9
+#define OPERATIONS 10
 
 /* By their numbers in a record; 0 is for those that are not known. */
 static operation operations[OPERATIONS] = {
@@ -416,6 +452,7 @@ static operation operations[OPERATIONS] = {
     {"build rules", build_rules, 0, 0},
     {"resolve", resolve, 0, 0},
     {"match nodes", match_node, 0, 0},
+    {"jobs", job, 0, 0},
 };
 
 /* Says what is wrong with a record, counted from 0. Answers 0, since the record is not as expected. */

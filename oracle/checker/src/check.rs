@@ -79,6 +79,12 @@ pub fn check_tree(check: &TreeCheck) -> u32 {
 }
 
 fn check_job(job: &Job) -> Result<(), u32> {
+    checked_candidates(job)?;
+    check_parses(&job.parses)
+}
+
+/// The rules left of a job that nothing refuses before its parses are looked at: 1 to 27.
+pub fn checked_candidates(job: &Job) -> Result<Vec<Rule>, u32> {
     let rules = checked_rules(&job.rules, Some(&job.file))?;
     // A lone last word is a candidate without a rule.
     if rules.len() > 16 || job.candidates.len().div_ceil(2) > 1024 {
@@ -95,7 +101,7 @@ fn check_job(job: &Job) -> Result<(), u32> {
         return Err(26);
     }
     check_templates(&rules)?;
-    check_parses(&job.parses)
+    Ok(rules)
 }
 
 fn check_walk(job: &Job) -> Result<(), u32> {

@@ -3,8 +3,10 @@
 
 use crate::answer::{padded, refused};
 use crate::check::{checked_file, checked_rules};
+use crate::job_ways::{JobWay, JobWays};
 use crate::parses::{Parse, read_parses};
 use crate::rules::Rule;
+use crate::tokens::STAND_IN;
 use crate::tree::Tree;
 use input::words::{EDIT_END, EDIT_LENGTH, EDIT_START, word};
 use input::{Answer, Binding, Job, Kept, Outcome, used};
@@ -16,7 +18,7 @@ const NAME_REF: u32 = 4;
 const METHOD_CALL_EXPR: u32 = 65;
 
 /// What ends the writing before the list is whole.
-enum Event {
+pub enum Event {
     Refused(u32),
     Asked(u32, Vec<u8>),
 }
@@ -43,28 +45,43 @@ fn written(job: &Job, outer: &[Kept]) -> Result<Vec<u8>, Event> {
         parses.insert((parse.kind, parse.text), parse);
     }
     let fact_text = &job.rules.fact_text;
-    let mut writer = Writer {
-        rules: &rules,
-        file: &file,
-        fact_text,
-        parses,
-        out: Vec::new(),
-        room: used(job.buffer),
-    };
-    for kept in outer {
-        writer.edit(kept)?;
-    }
-    Ok(writer.out)
+    let source = Source { rules: &rules, file: &file, fact_text, parses };
+    write_list(&source, used(job.buffer), outer).0
+}
+
+/// What texts are made of.
+pub struct Source<'a> {
+    pub rules: &'a [Rule],
+    pub file: &'a Tree,
+    pub fact_text: &'a [u8],
+    pub parses: BTreeMap<(u32, &'a [u8]), Parse<'a>>,
+}
+
+/// The list of the outer matches in this room, or the event that ends it; and the ways that writing
+/// went.
+pub fn write_list(
+    source: &Source,
+    room: usize,
+    outer: &[Kept],
+) -> (Result<Vec<u8>, Event>, JobWays) {
+    let mut writer = Writer { source, out: Vec::new(), room, levels: 0, ways: JobWays::default() };
+    let result = outer.iter().try_for_each(|kept| writer.edit(kept));
+    (result.map(|()| writer.out), writer.ways)
+}
+
+/// Whether the rendering of a template with this root kind is parsed: an expression or an item.
+pub fn is_asked(kind: u32) -> bool {
+    (64..=2047).contains(&kind)
 }
 
 /// The bytes laid so far are `out`; its length is the cursor.
 struct Writer<'a> {
-    rules: &'a [Rule],
-    file: &'a Tree,
-    fact_text: &'a [u8],
-    parses: BTreeMap<(u32, &'a [u8]), Parse<'a>>,
+    source: &'a Source<'a>,
     out: Vec<u8>,
     room: usize,
+    /// How many texts are unfinished.
+    levels: usize,
+    ways: JobWays,
 }
 
 /// One rendering of a match: where it begins, which template tokens get parentheses, and
@@ -85,19 +102,27 @@ struct Rendering<'k> {
 /// where rendering it again would; rendering it again would cost twice as much at each level.
 type Finished = BTreeMap<(usize, usize), Vec<u8>>;
 
-impl Writer<'_> {
+impl<'a> Writer<'a> {
     fn lay(&mut self, bytes: &[u8]) -> Result<(), Event> {
         let fits = bytes.len().min(self.room - self.out.len());
         self.out.extend(&bytes[..fits]);
         if fits < bytes.len() { Err(Event::Refused(30)) } else { Ok(()) }
     }
 
+    /// The same result; 30 in it went this way.
+    fn filled<T>(&mut self, result: Result<T, Event>, way: JobWay) -> Result<T, Event> {
+        self.ways.insert_if(matches!(result, Err(Event::Refused(30))), way);
+        result
+    }
+
     /// Three words, then the text; the words are known when the text is whole.
     fn edit(&mut self, kept: &Kept) -> Result<(), Event> {
         let at = self.out.len();
-        self.lay(&[0; 12])?;
+        let words = self.lay(&[0; 12]);
+        self.filled(words, JobWay::FullWords)?;
         self.text(kept)?;
-        let node = self.file.elements[kept.matched.node as usize];
+        let node = self.source.file.elements[kept.matched.node as usize];
+        self.ways.insert_if(node.start == node.end, JobWay::EmptyNode);
         let length = self.out.len() - at - 12;
         let words = [(EDIT_START, node.start), (EDIT_END, node.end), (EDIT_LENGTH, length)];
         for (place, (kind, value)) in words.into_iter().enumerate() {
@@ -108,49 +133,100 @@ impl Writer<'_> {
     }
 
     fn text(&mut self, kept: &Kept) -> Result<(), Event> {
+        self.levels += 1;
+        let result = self.whole_text(kept);
+        self.levels -= 1;
+        if let Err(event) = &result
+            && self.levels > 0
+        {
+            self.ways.insert(match event {
+                Event::Asked(..) => JobWay::AskedNested,
+                Event::Refused(29) => JobWay::UnboundNested,
+                Event::Refused(_) => JobWay::FullNested,
+            });
+        }
+        result
+    }
+
+    fn whole_text(&mut self, kept: &Kept) -> Result<(), Event> {
         let begin = self.out.len();
         let mut finished = Finished::new();
         let parentheses = BTreeSet::new();
         let mut first = Rendering { kept, begin, parentheses, ranges: BTreeMap::new() };
+        self.note_captures(kept);
         self.render(&mut first, &mut finished)?;
         let split = self.split_placeholders(first)?;
-        if !split.is_empty() {
+        let again = !split.is_empty();
+        if again {
             self.out.truncate(begin);
             let ranges = BTreeMap::new();
             let mut second = Rendering { kept, begin, parentheses: split, ranges };
-            self.render(&mut second, &mut finished)?;
+            let result = self.render(&mut second, &mut finished);
+            self.filled(result, JobWay::FullSecond)?;
         }
         for &comment in &kept.matched.comments {
-            self.lay(self.file.text_of(comment as usize))?;
+            self.ways.insert(JobWay::Comments);
+            self.ways.insert_if(self.levels > 1, JobWay::CommentsNested);
+            self.ways.insert_if(again, JobWay::CommentsSecond);
+            let result = self.lay(self.source.file.text_of(comment as usize));
+            self.filled(result, JobWay::FullComments)?;
         }
         Ok(())
     }
 
+    /// Which captures the template has twice or not at all.
+    fn note_captures(&mut self, kept: &Kept) {
+        let (rule, tree) = (self.rule(kept), self.template(kept));
+        let mut uses = [0; 8];
+        for token in tree.tokens_below(0).filter(|&token| tree.is_token(token, IDENT)) {
+            match rule.placeholder(tree.text_of(token)) {
+                Some(slot) => uses[slot] += 1,
+                None if tree.text_of(token).starts_with(STAND_IN) => {
+                    self.ways.insert(JobWay::PlainStandIn);
+                }
+                None => {}
+            }
+        }
+        for (slot, _) in kept.matched.bindings.iter().enumerate().filter(|(_, b)| b.is_some()) {
+            let nested = !kept.inner[slot].is_empty();
+            self.ways.insert_if(uses[slot] == 0, JobWay::Unused);
+            self.ways.insert_if(uses[slot] == 0 && nested, JobWay::UnusedNested);
+            self.ways.insert_if(uses[slot] > 1, JobWay::Twice);
+            self.ways.insert_if(uses[slot] > 1 && nested, JobWay::TwiceNested);
+        }
+    }
+
     /// The template tokens whose renderings are no node of the parse of the first rendering.
-    fn split_placeholders(&self, first: Rendering) -> Result<BTreeSet<usize>, Event> {
+    fn split_placeholders(&mut self, first: Rendering) -> Result<BTreeSet<usize>, Event> {
         let kind = self.template(first.kept).elements[0].kind;
-        if !(64..=2047).contains(&kind) {
+        if !is_asked(kind) {
+            self.ways.insert(JobWay::NeverAsked);
             return Ok(BTreeSet::new());
         }
         let text = &self.out[first.begin..];
-        let Some(parse) = self.parses.get(&(kind, text)) else {
+        let Some(parse) = self.source.parses.get(&(kind, text)) else {
             return Err(Event::Asked(kind, text.to_vec()));
         };
         if parse.ranges.is_empty() {
+            self.ways.insert(JobWay::DoesNotParse);
             return Ok(BTreeSet::new());
         }
         let mut left = first.ranges;
+        let all = left.len();
         for range in &parse.ranges {
             left.remove(range);
         }
+        self.ways.insert_if(left.is_empty() && all > 0, JobWay::NoParentheses);
+        self.ways.insert_if(!left.is_empty(), JobWay::Parentheses);
+        self.ways.insert_if(!left.is_empty() && left.len() < all, JobWay::SomeParentheses);
         Ok(left.into_values().collect())
     }
 
-    fn rule(&self, kept: &Kept) -> &Rule {
-        &self.rules[kept.matched.rule as usize]
+    fn rule(&self, kept: &Kept) -> &'a Rule {
+        &self.source.rules[kept.matched.rule as usize]
     }
 
-    fn template(&self, kept: &Kept) -> &Tree {
+    fn template(&self, kept: &Kept) -> &'a Tree {
         let template = self.rule(kept).template.as_ref();
         &template.expect("27 has passed: every rule has a template").tree
     }
@@ -173,7 +249,9 @@ impl Writer<'_> {
             };
             if let Ok(place) = path {
                 let (_, start, length) = paths[place];
-                self.lay(&self.fact_text[start as usize..][..length as usize])?;
+                self.ways.insert(JobWay::PathText);
+                self.ways.insert_if(!next.is_empty(), JobWay::PathRest);
+                self.lay(&self.source.fact_text[start as usize..][..length as usize])?;
             }
             next.reverse();
             waiting.extend(next);
@@ -195,19 +273,38 @@ impl Writer<'_> {
             return self.lay(&text);
         };
         let binding = rendering.kept.matched.bindings[slot].ok_or(Event::Refused(29))?;
-        let prefix = if is_receiver(tree, token) { Vec::new() } else { prefix(&binding) };
+        let prefix = self.prefix(tree, token, &binding);
         let marked = rendering.parentheses.contains(&token);
+        let nested = !rendering.kept.inner[slot].is_empty();
+        self.ways.insert_if(marked && nested, JobWay::ParenthesesNested);
+        self.ways.insert_if(marked && !prefix.is_empty(), JobWay::PrefixMarked);
+        self.ways.insert_if(nested && !prefix.is_empty(), JobWay::PrefixNested);
         if marked {
             self.lay(b"(")?;
         }
         let start = self.out.len() - rendering.begin;
         self.lay(&prefix)?;
         self.captured(rendering.kept, slot, &binding, finished)?;
-        rendering.ranges.insert((start, self.out.len() - rendering.begin), token);
+        let range = (start, self.out.len() - rendering.begin);
+        self.ways.insert_if(range.0 == range.1, JobWay::EmptyCapture);
+        let shared = rendering.ranges.insert(range, token);
+        self.ways.insert_if(shared.is_some(), JobWay::SharedRange);
         if marked {
             self.lay(b")")?;
         }
         Ok(())
+    }
+
+    fn prefix(&mut self, tree: &Tree, token: usize, binding: &Binding) -> Vec<u8> {
+        let prefix = prefix(binding);
+        if is_receiver(tree, token) {
+            self.ways.insert_if(!prefix.is_empty(), JobWay::PrefixLeftOut);
+            return Vec::new();
+        }
+        self.ways.insert_if(binding.self_kind == 1, JobWay::Ref);
+        self.ways.insert_if(binding.self_kind == 2, JobWay::RefMut);
+        self.ways.insert_if(binding.stars > 0, JobWay::Stars);
+        prefix
     }
 
     /// The captured bytes, each nested match replaced by its text.
@@ -218,10 +315,11 @@ impl Writer<'_> {
         binding: &Binding,
         finished: &mut Finished,
     ) -> Result<(), Event> {
+        let file = self.source.file;
         let mut at = binding.start as usize;
         for (place, nested) in kept.inner[slot].iter().enumerate() {
-            let node = self.file.elements[nested.matched.node as usize];
-            self.lay(&self.file.text[at..node.start])?;
+            let node = file.elements[nested.matched.node as usize];
+            self.lay(&file.text[at..node.start])?;
             match finished.get(&(slot, place)) {
                 Some(text) => self.lay(text)?,
                 None => {
@@ -232,7 +330,7 @@ impl Writer<'_> {
             }
             at = node.end;
         }
-        self.lay(&self.file.text[at..binding.end as usize])
+        self.lay(&file.text[at..binding.end as usize])
     }
 }
 

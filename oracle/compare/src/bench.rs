@@ -2,6 +2,7 @@
 //! is the library's time divided by the other's.
 
 mod checks;
+mod jobs;
 mod lists;
 mod rules;
 mod table;
@@ -37,6 +38,7 @@ pub fn run() -> Result<bool, String> {
     let equal = [
         tries::run(&alike),
         whole::run(&alike),
+        jobs::run(&alike),
         lists::run(&cases),
         trees::run(&cases),
         rules::run(),

@@ -1,5 +1,6 @@
 //! Judged answers as the library has to give them, and the library's answers as the judge gives them.
 
+pub mod jobs;
 pub mod lists;
 pub mod matching;
 pub mod rules;

@@ -3,6 +3,8 @@
 
 mod bench;
 mod comparison;
+mod jobs;
+mod jobs_sample;
 mod judged;
 mod matching;
 mod matching_sample;
@@ -36,6 +38,10 @@ const USAGE: &str = "usage: compare corpus < CASES
        compare matching tiny STEP
        compare matching damaged SEED COUNT
        compare matching limits
+       compare jobs corpus < CASES
+       compare jobs generated SEED COUNT
+       compare jobs buffers SEED COUNT
+       compare jobs limits
        compare bench < CASES
        compare sample SEED COUNT";
 
@@ -64,6 +70,10 @@ fn run(arguments: &[&str]) -> Result<bool, String> {
             Ok(matching::damaged(number(seed)?, number(count)?))
         }
         ["matching", "limits"] => Ok(matching::limits()),
+        ["jobs", "corpus"] => jobs::corpus(),
+        ["jobs", "generated", seed, count] => Ok(jobs::generated(number(seed)?, number(count)?)),
+        ["jobs", "buffers", seed, count] => Ok(jobs::buffers(number(seed)?, number(count)?)),
+        ["jobs", "limits"] => Ok(jobs::limits()),
         ["bench"] => bench::run(),
         ["sample", seed, count] => {
             let sample = sample::make(number(seed)?, number(count)? as usize)?;

@@ -8,6 +8,7 @@ use input::{Answer, Operation, TokenList};
 use judge::judge;
 
 use crate::comparison::with_lists;
+use crate::jobs_sample;
 use crate::judged;
 use crate::matching_sample;
 use crate::rules_sample;
@@ -46,6 +47,7 @@ pub fn make(seed: u64, count: usize) -> Result<Vec<u8>, String> {
     sample.extend(tree_sample::make(seed));
     sample.extend(rules_sample::make(seed, count)?);
     sample.extend(matching_sample::make(seed, count)?);
+    sample.extend(jobs_sample::make(seed, count)?);
     Ok(sample)
 }
 

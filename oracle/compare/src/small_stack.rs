@@ -1,6 +1,7 @@
 //! The library on a thread with a small stack.
 
 use std::panic::resume_unwind;
+use std::sync::mpsc::{Receiver, Sender, channel};
 use std::thread;
 
 /// The index of facts and its spare, while they are checked.
@@ -17,6 +18,9 @@ pub const OF_RESOLVING: usize = TABLES + CHECK + 64 * 1024;
 /// of 128 levels.
 pub const OF_MATCHING: usize = 2 * 1024 * 1024;
 
+/// For a job: the same.
+pub const OF_JOBS: usize = 2 * 1024 * 1024;
+
 /// Does some work on a stack of so many bytes; one that is used up ends the program.
 pub fn on_stack<T: Send>(bytes: usize, work: impl FnOnce() -> T + Send) -> T {
     let result = thread::scope(|scope| {
@@ -24,4 +28,39 @@ pub fn on_stack<T: Send>(bytes: usize, work: impl FnOnce() -> T + Send) -> T {
         thread.expect("a thread can be started").join()
     });
     result.unwrap_or_else(|payload| resume_unwind(payload))
+}
+
+/// A thread with a stack of so many bytes that answers one question after another. Starting one for
+/// each takes longer than most answers; and what one call leaves on the stack is there for the next.
+pub struct Worker<Q, A> {
+    questions: Sender<Q>,
+    answers: Receiver<A>,
+}
+
+impl<Q: Send + 'static, A: Send + 'static> Worker<Q, A> {
+    pub fn new(bytes: usize, answer: fn(Q) -> A) -> Worker<Q, A> {
+        let (questions, asked) = channel();
+        let (given, answers) = channel();
+        let work = move || asked.into_iter().map(answer).try_for_each(|answer| given.send(answer));
+        let thread = thread::Builder::new().stack_size(bytes).spawn(work);
+        thread.expect("a thread can be started");
+        Worker { questions, answers }
+    }
+
+    pub fn ask(&self, question: Q) -> A {
+        // A question that cannot be sent has no answer either.
+        let _ = self.questions.send(question);
+        self.answers.recv().expect("the thread answers while it is asked")
+    }
+}
+
+#[cfg(test)]
+mod tests {
+    use super::*;
+
+    #[test]
+    fn a_worker_answers_in_turn() {
+        let worker = Worker::new(64 * 1024, |number: u32| number + 1);
+        assert_eq!((0..3).map(|number| worker.ask(number)).collect::<Vec<_>>(), [1, 2, 3]);
+    }
 }

@@ -145,7 +145,7 @@ pub fn sprinkle(rng: &mut Rng, children: &mut Vec<Syntax>, percent: usize) {
 }
 
 /// `S::r(x, y)` as `x.r(y)`, or as `x.r(x, y)` where the receiver is kept among the arguments.
-fn as_method_call(children: &[Syntax], keep: bool) -> Option<Syntax> {
+pub fn as_method_call(children: &[Syntax], keep: bool) -> Option<Syntax> {
     let [callee, arguments] = children else {
         return None;
     };

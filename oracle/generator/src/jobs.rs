@@ -144,7 +144,7 @@ pub fn rule_count(rules: &Rules) -> usize {
 }
 
 /// All pairs of nodes and rules in any order, or some of them; seldom a wrong list.
-fn candidates(rng: &mut Rng, job: &Job) -> Vec<u32> {
+pub fn candidates(rng: &mut Rng, job: &Job) -> Vec<u32> {
     let mut pairs = Vec::new();
     let count = rule_count(&job.rules) as u32;
     for node in nodes(&job.file) {
@@ -170,7 +170,7 @@ fn candidates(rng: &mut Rng, job: &Job) -> Vec<u32> {
 }
 
 /// Mostly none; else a part of the file, or more than it; seldom backward.
-fn range(rng: &mut Rng, file: &File) -> Option<(u32, u32)> {
+pub fn range(rng: &mut Rng, file: &File) -> Option<(u32, u32)> {
     if rng.chance(88) {
         return None;
     }

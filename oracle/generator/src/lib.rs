@@ -2,6 +2,7 @@
 //! three always give the same case.
 
 pub mod arguments;
+pub mod bent_jobs;
 pub mod bent_matches;
 pub mod bent_rules;
 pub mod bent_trees;
@@ -10,6 +11,7 @@ mod derive;
 mod facts;
 mod grammar;
 pub mod growing_rules;
+pub mod job_limits;
 mod jobs;
 mod kinds;
 mod limits;
@@ -17,6 +19,7 @@ mod lists;
 pub mod match_limits;
 mod odd_code;
 mod odd_facts;
+pub mod odd_jobs;
 pub mod odd_matches;
 mod odd_patterns;
 pub mod odd_rules;
@@ -32,8 +35,8 @@ pub mod tree_limits;
 pub mod trees;
 mod world;
 
-pub use jobs::awkward_buffers;
-pub use parse::complete;
+pub use jobs::{awkward_buffers, nodes, rule_count};
+pub use parse::{add_made_up, complete};
 pub use rng::Rng;
 
 use input::Operation;

@@ -75,7 +75,7 @@ fn plain(name: &str, pattern: &Syntax, code: &Syntax) -> MatchLimit {
 
 /// A side of the expression form: each placeholder is declared where it first stands, all else is
 /// tokens as long as they may be.
-fn side(tree: &Syntax) -> Side {
+pub(crate) fn side(tree: &Syntax) -> Side {
     let code = tree.text();
     let mut list: Vec<(u32, Vec<u8>)> = Vec::new();
     let mut declared: Vec<&[u8]> = Vec::new();
@@ -129,7 +129,8 @@ fn around(kind: u32, levels: usize, inner: Syntax) -> Syntax {
     (0..levels).fold(inner, |inner, _| node(kind, [inner]))
 }
 
-fn deep() -> Vec<MatchLimit> {
+/// As deep as trees may be.
+pub fn deep() -> Vec<MatchLimit> {
     let mut all = Vec::new();
     for (name, kind) in [
         ("depth 128", EXPR_STMT),

@@ -27,7 +27,15 @@ pub fn random(seed: u64, index: u64, most: usize) -> (Rules, File) {
     // A nest has many fields, which all have to match.
     let renamed = if nested { *rng.pick(&[0, 0, 10]) } else { 3 };
     let care = Care { fed: true, faults, renamed };
-    Case { rng, care, most, nested, patterns: Vec::new() }.make()
+    Case { rng, care, most, nested, templates: false, patterns: Vec::new() }.make()
+}
+
+/// The same, nearly all with templates and few with faults.
+pub(crate) fn with_templates(rng: &mut Rng, most: usize) -> (Rules, File) {
+    let faults = if rng.chance(90) { 0 } else { rng.between(1, 10) };
+    let care = Care { fed: true, faults, renamed: 3 };
+    let nested = rng.chance(5);
+    Case { rng, care, most, nested, templates: true, patterns: Vec::new() }.make()
 }
 
 /// The trees of the patterns are what the file is made of.
@@ -37,6 +45,8 @@ struct Case<'a> {
     most: usize,
     /// The patterns are record lists in each other.
     nested: bool,
+    /// Every pair has a template.
+    templates: bool,
     patterns: Vec<Syntax>,
 }
 
@@ -66,7 +76,7 @@ impl Case<'_> {
         let (pattern, trees) = self
             .side(&tree, &names, forms, constrained, |rng, root| pattern_facts(rng, root, care));
         self.patterns.extend(trees);
-        if self.rng.chance(if self.nested { 75 } else { 45 }) {
+        if !self.templates && self.rng.chance(if self.nested { 75 } else { 45 }) {
             return Pair { pattern, ..Pair::default() };
         }
         let tree = self.tree(&names);

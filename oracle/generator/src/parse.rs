@@ -2,14 +2,19 @@
 //! same question always has the same answer.
 
 use crate::rng::Rng;
-use input::Job;
 use input::build::add_parse;
+use input::{Job, Parses};
 
 /// The job with a parse of the asked text added.
 pub fn complete(job: &Job, kind: u32, text: &[u8]) -> Job {
     let mut job = job.clone();
-    add_parse(&mut job.parses, kind, text, &ranges(kind, text));
+    add_made_up(&mut job.parses, kind, text);
     job
+}
+
+/// Adds a parse of a text.
+pub fn add_made_up(parses: &mut Parses, kind: u32, text: &[u8]) {
+    add_parse(parses, kind, text, &ranges(kind, text));
 }
 
 /// Node ranges: none (does not parse), the whole alone, nearly all that a placeholder could

@@ -98,7 +98,7 @@ fn judged(job: &Job, walk: bool) -> Result<Judgement, Stopped> {
 }
 
 /// What differs between the crate's rendering and the checker's in all the room.
-fn difference(job: &Job, roomy: &Outcome, rendering: Rendering) -> Option<String> {
+pub(crate) fn difference(job: &Job, roomy: &Outcome, rendering: Rendering) -> Option<String> {
     let expected = match roomy.answer {
         Answer::Edits(length) => {
             let edits = edits::read(&roomy.buffer[..length]);

@@ -6,6 +6,7 @@ mod lists;
 pub mod predicates;
 pub mod program;
 mod rules;
+mod whole_jobs;
 mod whole_matches;
 mod whole_rules;
 
@@ -13,6 +14,7 @@ use checker::refused;
 use input::{Answer, Operation, Outcome};
 use predicates::Difference;
 use ssr::{NotFed, Stopped};
+pub use whole_jobs::{JudgedJob, ParsedJob, WholeJobs, used_by, whole_job};
 pub use whole_matches::{JudgedMatch, MatchQuestion, WholeMatches, whole_matches};
 pub use whole_rules::{Backing, Held, JudgedSide, Sides, WholeRules, whole_rules, without_facts};
 

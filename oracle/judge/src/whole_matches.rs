@@ -55,7 +55,7 @@ pub fn whole_matches<T>(rules: &Rules, file: &File, ask: impl FnOnce(&WholeMatch
         finder: None,
     };
     if let Err(number) = checked {
-        let backing = refusal(&pairs, rules, number, &covered);
+        let backing = refusal_backing(&pairs, rules, number, &covered);
         return ask(&without_finder(checked, backing));
     }
     let workspace = match Workspace::new(&pairs, &rules.fact_text, Some(file)) {
@@ -77,13 +77,18 @@ fn checked(rules: &Rules, file: &File) -> Result<Checked, u32> {
 }
 
 /// What the crate says to rules that the checker refuses.
-fn refusal(pairs: &[Pair], rules: &Rules, number: u32, covered: &[Difference]) -> Backing {
+pub(crate) fn refusal_backing(
+    pairs: &[Pair],
+    rules: &Rules,
+    number: u32,
+    covered: &[Difference],
+) -> Backing {
     let ask = || all_resolved(pairs, &rules.fact_text).map(|found| found.map(drop));
     held(Err(number), ask, |found, answer| is_refusal_listed(covered, found, answer)).backing
 }
 
 /// The crate stopped where the checker found nothing to refuse.
-fn stopped_backing(stopped: Stopped) -> Backing {
+pub(crate) fn stopped_backing(stopped: Stopped) -> Backing {
     match stopped {
         Stopped::NotFed(not_fed) => Backing::NotFed(not_fed),
         other => Backing::Other(format!("the crate has {other:?}, the checker no refusal")),

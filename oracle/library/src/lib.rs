@@ -2,6 +2,7 @@
 //! group of operations. What is handed in may be damaged in any way. An answer has the fields of the C
 //! struct; a refusal is its number, and 0 where nothing refuses.
 
+pub mod job;
 pub mod lists;
 pub mod matching;
 pub mod rules;

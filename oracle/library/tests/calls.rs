@@ -1,8 +1,9 @@
 //! Each call with the smallest input that has an answer of its own.
 
-use input::build::{Syntax, node, token, token_list};
-use input::pairs::encode;
-use input::{File, Pair, RuleSide, Rules, Side, TokenList, TreeCheck};
+use input::build::{Syntax, fact, node, token, token_list};
+use input::pairs::{decode, encode};
+use input::{File, Pair, Parses, RuleSide, Rules, Side, TokenList, TreeCheck};
+use library::job::{JobAnswer, job};
 use library::lists::{check_pair, raw_code, read_tokens};
 use library::matching::{Range, match_node};
 use library::rules::{build_rules, resolve};
@@ -75,6 +76,27 @@ fn a_node_is_matched() {
     assert_eq!((ask(0, Range::default()).refusal, ask(0, Range::default()).matched), (0, 1));
     assert_eq!((ask(0, given).refusal, ask(0, given).matched), (0, 0));
     assert_eq!(ask(1, Range::default()).refusal, 23);
+}
+
+#[test]
+fn a_job_is_done() {
+    // `1 ==>> 2`, where the kind of a type is never parsed.
+    let two = node(2050, [token(12, "2")]);
+    let mut pairs = decode(&rules()).expect("a directory that can be cut");
+    pairs[0].has_template = true;
+    pairs[0].template =
+        Side { list: token_list(&[(12, "2")]), code: two.text(), ..Side::default() };
+    pairs[0].template.trees[0].words = two.words();
+    let file = File { facts: fact(6, 0, [1, 0, 0]).to_vec(), ..file() };
+    let ask = |candidates: &[u32], out: &mut [u8]| {
+        job(&encode(&pairs, b""), &file, &Parses::default(), candidates, Range::default(), out)
+    };
+    let mut out = [7; 15];
+    assert_eq!(ask(&[0, 0], &mut out), JobAnswer { length: 13, ..JobAnswer::default() });
+    assert_eq!(out, *b"\0\0\0\x50\x01\0\0\x60\x01\0\0\x702\0\0");
+    assert_eq!(ask(&[0, 0], &mut [7; 12]).refusal, 30);
+    assert_eq!(ask(&[1, 0], &mut [7; 15]).refusal, 25);
+    assert_eq!(ask(&[], &mut []), JobAnswer::default());
 }
 
 #[cfg(feature = "tries")]

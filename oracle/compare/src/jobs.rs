@@ -1,0 +1,205 @@
+//! Jobs: the library's answers and buffers held against the judge's.
+
+pub mod call;
+mod corpus;
+mod limits;
+mod tally;
+
+use std::sync::Arc;
+
+use generator::{Rng, add_made_up, bent_jobs, odd_jobs, rule_vectors};
+use input::{Answer, Job, Parses};
+use judge::{JudgedJob, WholeJobs, used_by, whole_job};
+
+use call::{Call, handed_range};
+pub use corpus::{among_others, corpus, matching};
+pub use limits::limits;
+use tally::{Asked, Tally};
+
+/// How often a job is given the parse that it asks for.
+const ASKINGS: usize = 40;
+/// Damaged copies of one job.
+const COPIES: u64 = 1;
+/// One call of so many has a buffer with bytes beyond its used part.
+const LARGE: usize = 500;
+/// The longest list, and the longest text that is asked for, of a job that is tried with every buffer.
+const LONGEST: usize = 1_200;
+/// How far beyond its list the buffers of such a job go.
+const BEYOND: usize = 3;
+
+/// `count` jobs, each with the parses that it asks for one after another, and damaged copies of them.
+/// Every number of a job has to come up, and jobs have to go every way.
+pub fn generated(seed: u64, count: u64) -> bool {
+    let (mut whole, mut copies) = (Tally::default(), Tally::default());
+    for (name, job) in vectors() {
+        let rng = &mut Rng::new(&[seed]);
+        add(&mut copies, &|| name.to_owned(), &job, rng, 1);
+    }
+    for index in 0..count {
+        let rng = &mut Rng::new(&[seed, index]);
+        let mut job = odd_jobs::random(seed, index);
+        job.parses = add(&mut whole, &|| format!("job {index}"), &job, rng, ASKINGS);
+        for copy in 0..COPIES {
+            let mut bent = job.clone();
+            let names = bent_jobs::bend_copy(seed, index * COPIES + copy, &mut bent);
+            let name = || format!("job {index}, copy {copy}, {}", names.join(", "));
+            add(&mut copies, &name, &bent, rng, 2);
+        }
+    }
+    println!("whole jobs:");
+    let equal = whole.print(true);
+    println!("vectors of rules, and damaged copies:");
+    let equal = copies.print(false) & equal;
+    let (numbers, ways) = (copies.missing_numbers(), whole.missing_ways());
+    println!("numbers that did not come up: {numbers:?}");
+    println!("ways that no job went: {ways:?}");
+    equal && numbers.is_empty() && ways.is_empty()
+}
+
+/// The vectors of rules, each with a file and a candidate that there may be.
+fn vectors() -> impl Iterator<Item = (&'static str, Job)> {
+    let all = rule_vectors::all().into_iter().chain(rule_vectors::large());
+    let file = odd_jobs::random(0, 0).file;
+    all.map(move |(name, rules, _)| {
+        let (file, candidates) = (file.clone(), vec![0, 0]);
+        (name, Job { rules, file, candidates, buffer: 64, ..Job::default() })
+    })
+}
+
+/// Asks a job, then again with the parse that it asks for, up to so many times: its parses then.
+fn add(
+    tally: &mut Tally,
+    name: &dyn Fn() -> String,
+    job: &Job,
+    rng: &mut Rng,
+    askings: usize,
+) -> Parses {
+    tally.cases += 1;
+    let call = Call { range: handed_range(rng, job.range), ..Call::of(job.clone()) };
+    let other = Arc::new(shuffled(job, rng));
+    let mut parses = job.parses.clone();
+    let mut asked = Vec::new();
+    whole_job(job, true, |whole| {
+        for _ in 0..askings {
+            let parsed = whole.with(&parses, true);
+            let judged = parsed.ask(job.buffer);
+            let asked_for = asked_for(&judged);
+            let call = call.with_parses(Arc::new(parses.clone()));
+            let buffers = more_buffers(&judged, rng);
+            let more =
+                |buffer| Asked { call: call.with_buffer(buffer), judged: parsed.ask(buffer) };
+            asked.extend(buffers.into_iter().map(more));
+            // The order of the candidates is no matter.
+            let reordered = Call { job: other.clone(), ..call.clone() };
+            asked.push(Asked { call: reordered, judged: parsed.ask(job.buffer) });
+            asked.push(Asked { call, judged });
+            let Some((kind, text)) = asked_for else { break };
+            add_made_up(&mut parses, kind, &text);
+        }
+    });
+    tally.ask(name, asked);
+    parses
+}
+
+/// The parse that is asked for.
+pub fn asked_for(judged: &JudgedJob) -> Option<(u32, Vec<u8>)> {
+    let Answer::Asked { kind, length } = judged.outcome.answer else { return None };
+    Some((kind, judged.outcome.buffer[..length].to_vec()))
+}
+
+/// Around what the answer needs.
+fn more_buffers(judged: &JudgedJob, rng: &mut Rng) -> Vec<usize> {
+    let needs = used_by(&judged.outcome.answer);
+    let mut buffers = Vec::new();
+    if matches!(judged.outcome.answer, Answer::Edits(_)) {
+        buffers.extend([needs, needs.saturating_sub(1)]);
+    }
+    buffers.push(rng.below(needs + 14));
+    if rng.one_in(LARGE) {
+        buffers.push(1_048_576 + rng.below(9));
+    }
+    buffers
+}
+
+/// The same candidates in another order.
+fn shuffled(job: &Job, rng: &mut Rng) -> Job {
+    let mut job = job.clone();
+    let (pairs, _) = job.candidates.as_chunks_mut::<2>();
+    rng.shuffle(pairs);
+    job
+}
+
+/// `count` jobs, each with every buffer from none up to past its list: with all its parses, and with
+/// some of them.
+pub fn buffers(seed: u64, count: u64) -> bool {
+    let mut tally = Tally::default();
+    let (mut index, mut same) = (0, true);
+    while tally.cases < count {
+        let rng = &mut Rng::new(&[seed, index]);
+        let job = Job { buffer: LONGEST, ..odd_jobs::random(seed, index) };
+        index += 1;
+        whole_job(&job, true, |whole| {
+            let Some(states) = states(whole, &job) else { return };
+            let last = states.len() - 1;
+            let mut chosen = vec![last];
+            chosen.extend((last > 0).then(|| rng.below(last)));
+            for state in chosen {
+                same &= every_buffer(&mut tally, whole, &job, &states[state], index - 1);
+            }
+            tally.cases += 1;
+        });
+    }
+    let equal = tally.print(true);
+    if !same {
+        println!("the judge's own answers do not change at one length");
+    }
+    equal && same
+}
+
+/// The parses of a job, none at first and then one more at a time; nothing where the job is refused or
+/// its list is long or empty.
+fn states(whole: &WholeJobs, job: &Job) -> Option<Vec<Parses>> {
+    let mut parses = job.parses.clone();
+    let mut states = Vec::new();
+    loop {
+        let judged = whole.with(&parses, false).ask(job.buffer);
+        states.push(parses.clone());
+        match judged.outcome.answer {
+            Answer::Asked { .. } if states.len() <= ASKINGS => {
+                let (kind, text) = asked_for(&judged)?;
+                add_made_up(&mut parses, kind, &text);
+            }
+            Answer::Edits(1..) | Answer::Refused(29) => return Some(states),
+            _ => return None,
+        }
+    }
+}
+
+/// Whether the judge's answers are 30 up to a length and one other answer from there on.
+fn every_buffer(
+    tally: &mut Tally,
+    whole: &WholeJobs,
+    job: &Job,
+    parses: &Parses,
+    index: u64,
+) -> bool {
+    let parsed = whole.with(parses, true);
+    let call = Call::of(Job { parses: parses.clone(), ..job.clone() });
+    let roomy = parsed.ask(LONGEST).outcome.answer;
+    let name = || format!("job {index}");
+    let (mut asked, mut same, mut answered) = (Vec::new(), true, None);
+    for buffer in 0..LONGEST {
+        let judged = parsed.ask(buffer);
+        let full = judged.outcome.answer == Answer::Refused(30);
+        same &= if answered.is_none() { full || judged.outcome.answer == roomy } else { !full };
+        if !full && answered.is_none() {
+            answered = Some(buffer);
+        }
+        asked.push(Asked { call: call.with_buffer(buffer), judged });
+        if answered.is_some_and(|least| buffer >= least.max(used_by(&roomy)) + BEYOND) {
+            break;
+        }
+    }
+    tally.ask(&name, asked);
+    same
+}
