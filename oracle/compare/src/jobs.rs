@@ -18,8 +18,6 @@ use tally::{Asked, Tally};
 
 /// How often a job is given the parse that it asks for.
 const ASKINGS: usize = 40;
-/// Damaged copies of one job.
-const COPIES: u64 = 1;
 /// One call of so many has a buffer with bytes beyond its used part.
 const LARGE: usize = 500;
 /// The longest list, and the longest text that is asked for, of a job that is tried with every buffer.
@@ -27,7 +25,7 @@ const LONGEST: usize = 1_200;
 /// How far beyond its list the buffers of such a job go.
 const BEYOND: usize = 3;
 
-/// `count` jobs, each with the parses that it asks for one after another, and damaged copies of them.
+/// `count` jobs, each with the parses that it asks for one after another, and a damaged copy of each.
 /// Every number of a job has to come up, and jobs have to go every way.
 pub fn generated(seed: u64, count: u64) -> bool {
     let (mut whole, mut copies) = (Tally::default(), Tally::default());
@@ -39,12 +37,9 @@ pub fn generated(seed: u64, count: u64) -> bool {
         let rng = &mut Rng::new(&[seed, index]);
         let mut job = odd_jobs::random(seed, index);
         job.parses = add(&mut whole, &|| format!("job {index}"), &job, rng, ASKINGS);
-        for copy in 0..COPIES {
-            let mut bent = job.clone();
-            let names = bent_jobs::bend_copy(seed, index * COPIES + copy, &mut bent);
-            let name = || format!("job {index}, copy {copy}, {}", names.join(", "));
-            add(&mut copies, &name, &bent, rng, 2);
-        }
+        let names = bent_jobs::bend_copy(seed, index, &mut job);
+        let name = || format!("a copy of job {index}, {}", names.join(", "));
+        add(&mut copies, &name, &job, rng, 2);
     }
     println!("whole jobs:");
     let equal = whole.print(true);
