@@ -8,6 +8,7 @@ ghost use Prim.Native.Nat.{_*_, _/_, _≤_};
 ghost use lib.ListN.{length};
 ghost use Rattle.words.specs.Buffer.{usedOf, filled};
 ghost use Rattle.checks.specs.Given.{fileOf};
+ghost use Rattle.resolving.specs.Needs.{AllRoomy};
 ghost use Rattle.match_node.specs.Ready.{MarksRoomy};
 ghost use Rattle.render_replace.specs.Worlds.{Lent};
 ghost use Rattle.job_checks.specs.Checks.{jobOf};
@@ -15,8 +16,8 @@ ghost use Rattle.job_checks.specs.Checked.{Checked};
 ghost use Rattle.edits.specs.Answers.{answerOf, bytesOf};
 ghost use Rattle.job_answers.specs.Answers.{listIn, jobAnswer, bufferAfter};
 
-// The edit list of a job that passed its checks.
-fn write_checked<'a>(
+// The edit list of a job that passed its checks, in tables that are large enough.
+fn write_in<'a>(
     directory: &[u32],
     words: &[u32],
     bytes: &'a [u8],
@@ -99,6 +100,69 @@ fn write_checked<'a>(
     )
 }
 
+// The edit list of a job that passed its checks. The tables for its rows are its own, so that no caller has to know their sizes.
+pub fn write_checked<'a>(
+    directory: &[u32],
+    words: &[u32],
+    bytes: &'a [u8],
+    fact_text: &'a [u8],
+    tree: &[u32],
+    text: &[u8],
+    facts: &[u32],
+    parses: &[u32],
+    parse_text: &[u8],
+    candidates: &[u32],
+    range: Restriction,
+    file_index: &[u64],
+    keys: &[u64],
+    index: &mut [u64],
+    spare: &mut [u64],
+    paths: &mut [u32],
+    calls: &mut [u32],
+    marks: &mut [u32],
+    out: &mut [u8],
+) -> Edited
+    requires { ⌜ AllRoomy (now words) (now index) (now spare) (now paths) (now calls) × MarksRoomy (now words) (now marks) ⌝ }
+    requires { ⌜ (length (now spare) ≤ length (now paths)) × (length (now spare) ≤ length (now calls)) ⌝ }
+    requires { ⌜ Checked (jobOf (now directory) (now words) (now bytes) (now «fact_text») (fileOf (now tree) (now text) (now facts))
+        (now parses) (now «parse_text») (now candidates) range) (now «file_index») (now keys)
+        × (length (now out) ≤ 1048576) ⌝ }
+    ensures { λ r. ⌜ r ≡ answerOf (listIn (jobOf (now (directory .entry)) (now (words .entry)) (now (bytes .entry)) (now («fact_text» .entry))
+        (fileOf (now (tree .entry)) (now (text .entry)) (now (facts .entry))) (now (parses .entry)) (now («parse_text» .entry))
+        (now (candidates .entry)) range) (length (now (out .entry)))) ⌝ }
+    ensures { λ _. ⌜ now (out .exit) ≡ filled (now (out .entry)) (bytesOf (listIn (jobOf (now (directory .entry)) (now (words .entry)) (now (bytes .entry)) (now («fact_text» .entry))
+        (fileOf (now (tree .entry)) (now (text .entry)) (now (facts .entry))) (now (parses .entry)) (now («parse_text» .entry))
+        (now (candidates .entry)) range) (length (now (out .entry))))) ⌝ }
+{
+    let mut rows = [0u32; 45056];
+    let mut links = [0u32; 3072];
+    let mut frames = [0u32; 22528];
+    write_in(
+        directory,
+        words,
+        bytes,
+        fact_text,
+        tree,
+        text,
+        facts,
+        parses,
+        parse_text,
+        candidates,
+        range,
+        file_index,
+        keys,
+        index,
+        spare,
+        paths,
+        calls,
+        marks,
+        &mut rows,
+        &mut links,
+        &mut frames,
+        out,
+    )
+}
+
 // All checks in turn, and then the edit list, in tables that are large enough and a buffer that is used whole.
 fn job_in<'a>(
     directory: &[u32],
@@ -120,15 +184,12 @@ fn job_in<'a>(
     file_index: &mut [u64],
     keys: &mut [u64],
     more: &mut [u64],
-    rows: &mut [u32],
-    links: &mut [u32],
-    frames: &mut [u32],
     out: &mut [u8],
 ) -> Edited
-    requires { ⌜ Lent (now words) (now index) (now spare) (now paths) (now calls) (now frames) × MarksRoomy (now words) (now marks) ⌝ }
+    requires { ⌜ AllRoomy (now words) (now index) (now spare) (now paths) (now calls) × MarksRoomy (now words) (now marks) ⌝ }
+    requires { ⌜ (length (now spare) ≤ length (now paths)) × (length (now spare) ≤ length (now calls)) ⌝ }
     requires { ⌜ (length (now facts) / 4 ≤ 16383 → (length (now facts) / 4 ≤ length (now «file_index»)) × (length (now facts) / 4 ≤ length (now spare))) ⌝ }
-    requires { ⌜ (1024 ≤ length (now keys)) × (1024 ≤ length (now more)) × (45056 ≤ length (now rows)) × (3072 ≤ length (now links))
-        × (length (now out) ≤ 1048576) ⌝ }
+    requires { ⌜ (1024 ≤ length (now keys)) × (1024 ≤ length (now more)) × (length (now out) ≤ 1048576) ⌝ }
     ensures { λ r. ⌜ r ≡ jobAnswer (jobOf (now (directory .entry)) (now (words .entry)) (now (bytes .entry)) (now («fact_text» .entry))
         (fileOf (now (tree .entry)) (now (text .entry)) (now (facts .entry))) (now (parses .entry)) (now («parse_text» .entry))
         (now (candidates .entry)) range) (length (now (out .entry))) ⌝ }
@@ -175,9 +236,6 @@ fn job_in<'a>(
             paths,
             calls,
             marks,
-            rows,
-            links,
-            frames,
             out,
         ),
         Outcome::Refused(r) => edits::refuse(r, out),
@@ -215,9 +273,6 @@ fn job_many<'a>(
     let mut file_index = [0u64; 16384];
     let mut keys = [0u64; 1024];
     let mut more = [0u64; 1024];
-    let mut rows = [0u32; 45056];
-    let mut links = [0u32; 3072];
-    let mut frames = [0u32; 22528];
     job_in(
         directory,
         words,
@@ -238,9 +293,6 @@ fn job_many<'a>(
         &mut file_index,
         &mut keys,
         &mut more,
-        &mut rows,
-        &mut links,
-        &mut frames,
         out,
     )
 }
@@ -276,9 +328,6 @@ fn job_few<'a>(
     let mut file_index = [0u64; 1024];
     let mut keys = [0u64; 1024];
     let mut more = [0u64; 1024];
-    let mut rows = [0u32; 45056];
-    let mut links = [0u32; 3072];
-    let mut frames = [0u32; 22528];
     job_in(
         directory,
         words,
@@ -299,9 +348,6 @@ fn job_few<'a>(
         &mut file_index,
         &mut keys,
         &mut more,
-        &mut rows,
-        &mut links,
-        &mut frames,
         out,
     )
 }
