@@ -3,7 +3,7 @@
 use mathlib.Core.Path.{_≡_, sym, ap, _∙_}
 use mathlib.Core.Bool.{false}
 use mathlib.Core.List.{List, [], _∷_}
-use Prim.Native.Nat.{ℕ, zero, suc, _≤_, _<_}
+use Prim.Native.Nat.{ℕ, zero, suc, _*_, _≤_, _<_}
 use native.Mathlib.Omega.{arith}
 use lib.Dec.{eqb}
 use lib.ListN.{length, take, getD}
@@ -54,10 +54,10 @@ module _ {j : Job} {index keys : List ℕ} (checked : Checked j index keys) wher
     pub count-is : count ≡ length (take count keys)
     count-is = rw all (sym keys-length)
 
-    pub keys-asked : (rules : ℕ) (rows links : List ℕ) → rules ≡ ruleCount j → 45056 ≤ length rows → 3072 ≤ length links
+    pub keys-asked : (rules : ℕ) (rows links : List ℕ) → rules ≡ ruleCount j
+        → candidateCount (j .candidates) * 44 ≤ length rows → 3 * candidateCount (j .candidates) ≤ length links
         → AreNodes (j .file) (take count keys) × AreBelow rules (take count keys) × HaveRoom (take count keys) rows links
         × (rules ≤ 16) × (rules ≤ ruleCount j)
     keys-asked rules rows links e a b =
-        let room : HaveRoom (keysIn j keys) rows links =
-        (omega (arith, keys-length, checked .fewCandidates), omega (arith, keys-length, checked .fewCandidates)) in
+        let room : HaveRoom (keysIn j keys) rows links = (omega (arith, keys-length), omega (arith, keys-length)) in
         rw (all, e) (keys-name .0, keys-name .1, room, checked .fewRules, omega arith)

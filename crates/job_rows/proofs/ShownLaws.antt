@@ -68,9 +68,9 @@ module _ {j : Job} {index keys : List ℕ} (checked : Checked j index keys) wher
     fresh : (k : ℕ) → k < n → field rows k 2 ≤ 1
     fresh k h = state-low (attemptIn j (key k / 16) (key k % 16)) rows k (told k h .0 .state)
 
-    are-candidates : 45056 ≤ length rows → Candidates (treeIn j) rows n
+    are-candidates : n * 44 ≤ length rows → Candidates (treeIn j) rows n
     are-candidates long = record {
-      long = omega (arith, checked .fewCandidates);
+      long = long;
       few = checked .fewCandidates;
       known = λ k h.
           let low = node-below (j .file .words) (key k / 16) (checked .formed) (keys-name checked .0 k (in-keys k h)) in
@@ -131,7 +131,7 @@ module _ {j : Job} {index keys : List ℕ} (checked : Checked j index keys) wher
           bare = λ k h e. no-comments (attemptIn j (field rows′ k 0) (field rows′ k 1)) (λ q. e (noted-is k h ∙ q));
         }
 
-        are-rows : 45056 ≤ length rows → RowsOf j rows′ links′
+        are-rows : n * 44 ≤ length rows → RowsOf j rows′ links′
         are-rows long = record {
           shown = are-shown;
           list = λ room.
@@ -144,7 +144,7 @@ module _ {j : Job} {index keys : List ℕ} (checked : Checked j index keys) wher
 
   -- ---- as many rows as are counted
 
-  module _ {count : ℕ} (all : count ≡ n) {rows links : List ℕ} (long : 45056 ≤ length rows)
+  module _ {count : ℕ} (all : count ≡ n) {rows links : List ℕ} (long : n * 44 ≤ length rows)
       (gathered : Gathered (rulesIn j) (j .file) (j .range) (take count keys) rows links) where
     gathered-all : Gathered (rulesIn j) (j .file) (j .range) (keysIn j keys) rows links
     gathered-all = rw all at gathered
@@ -158,11 +158,10 @@ module _ {j : Job} {index keys : List ℕ} (checked : Checked j index keys) wher
       nested-all = rw all at nested
 
       -- what linking asks
-      pub may-link : 3072 ≤ length links
+      pub may-link : 3 * n ≤ length links
           → ((count ≤ 1024) × (3 * count ≤ length links)) × (Held rows′ count × ((k : ℕ) → k < count → linkWord links k 0 ≡ 0))
       may-link wide =
-          let few : (n ≤ 1024) × (3 * n ≤ length links) = (checked .fewCandidates, omega (arith, checked .fewCandidates)) in
-          rw all (few, (held gathered-all nested-all, λ k h. told gathered-all k h .1 .fresh))
+          rw all ((checked .fewCandidates, wide), (held gathered-all nested-all, λ k h. told gathered-all k h .1 .fresh))
 
       pub rows-of : {links′ : List ℕ} → Linked rows′ count links links′ → RowsOf j rows′ links′
       rows-of linked = are-rows gathered-all nested-all (rw all at linked) long

@@ -2,11 +2,12 @@
 use gathering::gathering::gather_all;
 use get_match::Restriction;
 use rules::numbering;
-ghost use Prim.Native.Nat.{_≤_};
+ghost use Prim.Native.Nat.{_*_, _≤_};
 ghost use lib.ListN.{length};
 ghost use Rattle.resolving.specs.Needs.{AllRoomy};
 ghost use Rattle.checks.specs.Given.{fileOf};
 ghost use Rattle.match_node.specs.Ready.{MarksRoomy};
+ghost use Rattle.candidates.specs.Candidates.{candidateCount};
 ghost use Rattle.job_checks.specs.Checks.{jobOf};
 ghost use Rattle.job_checks.specs.Checked.{Checked};
 ghost use Rattle.job_rows.specs.Rows.{RowsOf};
@@ -36,7 +37,8 @@ pub fn nest_candidates(
 )
     requires { ⌜ AllRoomy (now words) (now index) (now spare) (now paths) (now calls) × MarksRoomy (now words) (now marks) ⌝ }
     requires { ⌜ Checked (jobOf (now directory) (now words) (now bytes) (now «fact_text») (fileOf (now tree) (now text) (now facts))
-        (now parses) (now «parse_text») (now candidates) range) (now «file_index») (now keys) × (45056 ≤ length (now rows)) × (3072 ≤ length (now links)) ⌝ }
+        (now parses) (now «parse_text») (now candidates) range) (now «file_index») (now keys)
+        × (candidateCount (now candidates) * 44 ≤ length (now rows)) × (3 * candidateCount (now candidates) ≤ length (now links)) ⌝ }
     ensures { λ _. ⌜ RowsOf (jobOf (now (directory .entry)) (now (words .entry)) (now (bytes .entry)) (now («fact_text» .entry))
         (fileOf (now (tree .entry)) (now (text .entry)) (now (facts .entry))) (now (parses .entry)) (now («parse_text» .entry))
         (now (candidates .entry)) range) (now (rows .exit)) (now (links .exit)) ⌝ }

@@ -16,7 +16,7 @@ use Rattle.readying.specs.declared.Template.{Template}
 use Rattle.render_replace.specs.declared.turns.Laid.{Laid}
 use Rattle.render_replace.specs.declared.turns.Next.{Next}
 use Rattle.render_replace.specs.declared.turns.Next.the-variants.{Row, Ends}
-use Rattle.render_replace.specs.Worlds.{Handed, Shown, Lent, AtHand}
+use Rattle.render_replace.specs.Worlds.{Handed, Shown, Lent, HasFrames, AtHand}
 use Rattle.render_replace.specs.Stacks.{base}
 use Rattle.render_replace.specs.Answers.{Answers}
 use Rattle.render_replace.specs.Turns.{AtTurn, TurnLeft, TurnKeeps}
@@ -32,18 +32,13 @@ pub record Sizes (frames₀ index₀ spare₀ paths₀ calls₀ marks₀ out₀ 
   pub of-out : length out ≡ length out₀
 
 module _ {words frames₀ index₀ spare₀ paths₀ calls₀ marks₀ out₀ frames index spare paths calls marks out : List ℕ} where
-  pub lent-after : Lent words index₀ spare₀ paths₀ calls₀ frames₀ → Sizes frames₀ index₀ spare₀ paths₀ calls₀ marks₀ out₀ frames index spare paths calls marks out
-      → Lent words index spare paths calls frames
+  pub lent-after : Lent words index₀ spare₀ paths₀ calls₀ → Sizes frames₀ index₀ spare₀ paths₀ calls₀ marks₀ out₀ frames index spare paths calls marks out
+      → Lent words index spare paths calls
   lent-after l s = record {
     roomy = roomy-after words index spare paths calls (l .roomy) (le-refl (length words)) (s .of-index) (s .of-spare) (s .of-paths) (s .of-calls);
     for-parts = omega (arith, l .for-parts, s .of-spare, s .of-paths);
     for-flags = omega (arith, l .for-flags, s .of-spare, s .of-calls);
-    for-frames = omega (arith, l .for-frames, s .of-frames);
   }
-
-pub lent-frames : {words index spare paths calls frames frames′ : List ℕ} → Lent words index spare paths calls frames → length frames′ ≡ length frames
-    → Lent words index spare paths calls frames′
-lent-frames l e = record { roomy = l .roomy; for-parts = l .for-parts; for-flags = l .for-flags; for-frames = omega (arith, l .for-frames, e) }
 
 pub marks-after : (words marks₀ marks : List ℕ) → MarksRoomy words marks₀ → length marks ≡ length marks₀ → MarksRoomy words marks
 marks-after words marks₀ marks m e k h few = omega (arith, m k h few)
@@ -93,18 +88,18 @@ module _ {h : Handed} {k0 : ℕ} {frames₀ out₀ : List ℕ} {at₀ : ℕ} whe
 
 -- ---- the first turn
 
-module _ (k0 begin : ℕ) (frames frames′ : List ℕ) (room : 22528 ≤ length frames) (few : k0 ≤ 1023) (e : frames′ ≡ entered frames k0 begin) where
+module _ (k0 begin : ℕ) (frames frames′ : List ℕ) (room : 22 * k0 + 22 ≤ length frames) (e : frames′ ≡ entered frames k0 begin) where
   enters-here : Entered frames k0 begin frames′
-  enters-here = subst (λ (l : List ℕ). Entered frames k0 begin l) (sym e) (enters frames k0 begin (omega arith))
+  enters-here = subst (λ (l : List ℕ). Entered frames k0 begin l) (sym e) (enters frames k0 begin room)
 
   pub begins-here : beginOf frames′ k0 ≡ begin
   begins-here = enters-here .begin
 
   pub begins-turn : {W : World} {h : Handed} {out : List ℕ} → Shown W h
-      → k0 < W .count → begin ≤ length out → AtTurn W h k0 k0 frames′ out begin
-  begins-turn {W} {out = out} s inside fits =
+      → k0 < W .count → HasFrames W frames → begin ≤ length out → AtTurn W h k0 k0 frames′ out begin
+  begins-turn {W} {out = out} s inside all fits =
       let p = enters-passing W k0 begin frames frames′ out fits enters-here in
       record {
-        at-row = record { shown = s; inside = inside; standing = (λ _. p, λ m. absurd (omega (arith, p .none))) };
+        at-row = record { shown = s; inside = inside; room = omega (arith, all, enters-here .size); standing = (λ _. p, λ m. absurd (omega (arith, p .none))) };
         stack = base;
       }

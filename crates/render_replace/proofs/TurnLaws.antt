@@ -25,7 +25,7 @@ use Rattle.rows.proofs.FrameLaws.{word-before}
 use Rattle.rows.proofs.BetweenLaws.{length-between, grows-between, grows-none}
 use Rattle.rows.proofs.OwnerLaws.{done-up}
 use Rattle.replacing.specs.Laying.{Lays, Short}
-use Rattle.replacing.specs.Steps.{Nests, EndsWithin, AtStep, StepsLeft}
+use Rattle.replacing.specs.Steps.{FramesFor, Nests, EndsWithin, AtStep, StepsLeft}
 use Rattle.replacing.proofs.StepLaws.{came-below}
 use Rattle.rerendering.specs.Endings.{Rendered, Shows}
 use Rattle.readying.specs.declared.Template.{Template}
@@ -130,6 +130,10 @@ code-at n d w b row bs e g = rw (e, g)
 module _ {W : World} {h : Handed} {k : ℕ} {frames out : List ℕ} {at : ℕ} (p : AtRow W h k frames out at) where
   pub row-few : k ≤ 1023
   row-few = omega (arith, p .inside, p .shown .few)
+
+  -- the frames have room for the row and for those nested in it
+  pub frames-for : (end : ℕ) → end ≡ linkWord (h .links) k 0 → FramesFor end k frames
+  frames-for end l = record { here = omega (arith, p .inside, p .room); nested = omega (arith, p .shown .last k (p .inside), p .room) }
 
   -- the template that was made ready is the row's
   pub at-template : (t : Template) (spare code : List ℕ) (end : ℕ) → TemplateIs h k t spare
@@ -256,6 +260,7 @@ module _ {W : World} {h : Handed} {k0 k : ℕ} {frames out : List ℕ} {at : ℕ
       at-row = record {
         shown = p .at-row .shown;
         inside = n .waiting .inside;
+        room = omega (arith, p .at-row .room, keeps .frames-length);
         standing = (λ e. n .passing, λ m. absurd (omega (arith, n .passing .none)));
       };
       stack = up (subst (λ (b : ℕ). Waiting W k j frames′ out′ b) (sym (n .begin)) (n .waiting))
@@ -296,6 +301,7 @@ module _ {W : World} {h : Handed} {k0 k : ℕ} {frames out : List ℕ} {at : ℕ
               at-row = record {
                 shown = p .at-row .shown;
                 inside = omega (arith, p .at-row .inside);
+                room = omega (arith, p .at-row .room, keeps .frames-length);
                 standing = (λ y. absurd (omega (arith, filling .within .filling)), λ _. filling);
               };
               stack = stack-stays (o .around) (before-less (22 * n) (22 * k) frames frames′ (omega arith) (keeps .frames-before))

@@ -25,7 +25,7 @@ use Rattle.render_replace.specs.declared.turns.Next.{Next}
 use Rattle.render_replace.specs.declared.turns.Next.the-variants.{Row, Ends}
 use Rattle.render_replace.specs.declared.turns.Laid.the-variants as laid
 use Rattle.collections.specs.Links.{linkWord}
-use Rattle.render_replace.specs.Worlds.{notedComments, Handed, Shown}
+use Rattle.render_replace.specs.Worlds.{notedComments, Handed, Shown, HasFrames}
 use Rattle.render_replace.specs.Stacks.{Stack, workLeft}
 use Rattle.render_replace.specs.Answers.{Answers}
 
@@ -42,6 +42,7 @@ pub record AtTemplate (W : World) (rows : List ℕ) (end k : ℕ) (tree text tab
 pub record AtRow (W : World) (h : Handed) (k : ℕ) (frames out : List ℕ) (at : ℕ) : Type 0 where
   pub shown : Shown W h
   pub inside : k < W .count
+  pub room : HasFrames W frames
   pub standing : Standing W k frames out at
 
 -- a first rendering of row k, which has no parse, stands between two places

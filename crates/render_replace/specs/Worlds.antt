@@ -88,11 +88,14 @@ pub record Checked (q : Rules) : Type 0 where
   pub paths : any (map pairFails (pairs (q .directory) (q .words) (q .bytes))) ≡ false
 
 -- the tables that are lent are large enough
-pub record Lent (words index spare paths calls frames : List ℕ) : Type 0 where
+pub record Lent (words index spare paths calls : List ℕ) : Type 0 where
   pub roomy : AllRoomy words index spare paths calls
   pub for-parts : length spare ≤ length paths
   pub for-flags : length spare ≤ length calls
-  pub for-frames : 22528 ≤ length frames
+
+-- each row has a frame
+abbrev pub HasFrames : World → List ℕ → Type 0
+HasFrames W frames = 22 * W .count ≤ length frames
 
 -- a template tells that of row k
 abbrev pub TemplateIs : Handed → ℕ → Template → List ℕ → Type 0

@@ -17,7 +17,7 @@ ghost use Rattle.checks.specs.Given.{rulesOf};
 ghost use Rattle.match_node.specs.Ready.{MarksRoomy};
 ghost use Rattle.rows.specs.Rows.{World, rowTrace};
 ghost use Rattle.rows.specs.Frames.{beginOf};
-ghost use Rattle.render_replace.specs.Worlds.{handedOf, Shown, Checked, Lent, AtHand};
+ghost use Rattle.render_replace.specs.Worlds.{handedOf, Shown, Checked, Lent, HasFrames, AtHand};
 ghost use Rattle.render_replace.specs.Answers.{Answers};
 ghost use Rattle.render_replace.specs.Turns.{AtTurn};
 
@@ -54,7 +54,7 @@ fn render_rows<'a>(
     begin: usize,
 ) -> Rendered
     requires { ⌜ Checked (rulesOf (now directory) (now words) (now bytes) (length (now «fact_text»)))
-        × Lent (now words) (now index) (now spare) (now paths) (now calls) (now frames) × MarksRoomy (now words) (now marks)
+        × Lent (now words) (now index) (now spare) (now paths) (now calls) × MarksRoomy (now words) (now marks)
         × FileOf (now tree) (now facts) (now «file_index») ⌝ }
     requires { ⌜ (isParseList (length (now «parse_text»)) (now parses) ≡ true) × (length (now out) ≤ 1048576)
         × AtHand (rulesOf (now directory) (now words) (now bytes) (length (now «fact_text»))) was (now spare) ⌝ }
@@ -144,13 +144,13 @@ pub fn render_replace<'a>(
     begin: usize,
 ) -> Rendered
     requires { ⌜ Checked (rulesOf (now directory) (now words) (now bytes) (length (now «fact_text»)))
-        × Lent (now words) (now index) (now spare) (now paths) (now calls) (now frames) × MarksRoomy (now words) (now marks)
+        × Lent (now words) (now index) (now spare) (now paths) (now calls) × MarksRoomy (now words) (now marks)
         × FileOf (now tree) (now facts) (now «file_index») ⌝ }
     requires { ⌜ (isParseList (length (now «parse_text»)) (now parses) ≡ true) × (length (now out) ≤ 1048576)
         × (begin ≤ length (now out)) × AtHand (rulesOf (now directory) (now words) (now bytes) (length (now «fact_text»))) was (now spare) ⌝ }
     requires { ⌜ ((W : World) × Shown W
         (handedOf (now directory) (now words) (now bytes) (now «fact_text») (now tree) (now text) (now facts) range
-        (now parses) (now «parse_text») (now rows) (now links)) × (k0 < W .count)) ⌝ }
+        (now parses) (now «parse_text») (now rows) (now links)) × (k0 < W .count) × HasFrames W (now frames)) ⌝ }
     ensures { λ r. ⌜ (take begin (now (out .exit)) ≡ take begin (now (out .entry)))
         × AtHand
         (rulesOf (now (directory .entry)) (now (words .entry)) (now (bytes .entry)) (length (now («fact_text» .entry))))
@@ -159,7 +159,7 @@ pub fn render_replace<'a>(
         (handedOf (now (directory .entry)) (now (words .entry)) (now (bytes .entry)) (now («fact_text» .entry))
         (now (tree .entry)) (now (text .entry)) (now (facts .entry)) range (now (parses .entry)) (now («parse_text» .entry))
         (now (rows .entry)) (now (links .entry)))
-        → k0 < W .count → Answers (rowTrace W k0) begin (now (out .exit)) (r .laid)) ⌝ }
+        → k0 < W .count → HasFrames W (now (frames .entry)) → Answers (rowTrace W k0) begin (now (out .exit)) (r .laid)) ⌝ }
 {
     frames::enter(frames, k0, begin);
     render_rows(

@@ -25,6 +25,7 @@ ghost use Rattle.match_node.specs.Ready.{MarksRoomy};
 ghost use Rattle.nester.specs.Rows.{field};
 ghost use Rattle.rows.specs.Rows.{World};
 ghost use Rattle.rows.specs.Frames.{beginOf, Keeps};
+ghost use Rattle.replacing.specs.Steps.{FramesFor};
 ghost use Rattle.readying.specs.Ready.{TemplateOf};
 ghost use Rattle.collections.specs.Links.{linkWord};
 ghost use Rattle.render_replace.specs.Worlds.{handedOf, Checked, Lent, AtHand};
@@ -93,7 +94,7 @@ fn render_row<'a>(
     out: &mut [u8],
     at: usize,
 ) -> Step
-    requires { ⌜ (22528 ≤ length (now frames)) × (length (now table) ≤ 16384) × (length (now out) ≤ 1048576)
+    requires { ⌜ FramesFor end k (now frames) × (length (now table) ≤ 16384) × (length (now out) ≤ 1048576)
         × (isParseList (length (now «parse_text»)) (now parses) ≡ true) ⌝ }
     requires { ⌜ (length (now table) ≤ length (now parts)) × (length (now table) ≤ length (now marks)) ⌝ }
     requires { ⌜ ((W : World) × AtTemplate W (now rows) end k (now tree) (now text) (now table) (now code) (now «fact_text») kind
@@ -168,7 +169,7 @@ fn ready_row<'a>(
     at: usize,
 ) -> Stepped
     requires { ⌜ Checked (rulesOf (now directory) (now words) (now bytes) (length (now «fact_text»)))
-        × Lent (now words) (now index) (now spare) (now paths) (now calls) (now frames) ⌝ }
+        × Lent (now words) (now index) (now spare) (now paths) (now calls) ⌝ }
     requires { ⌜ (isParseList (length (now «parse_text»)) (now parses) ≡ true) × (length (now out) ≤ 1048576)
         × AtHand (rulesOf (now directory) (now words) (now bytes) (length (now «fact_text»))) was (now spare) ⌝ }
     requires { ⌜ ((W : World) × (facts : List ℕ) × (range : Restriction) × AtRow W
@@ -351,7 +352,7 @@ pub fn take_turn<'a>(
     at: usize,
 ) -> Turned
     requires { ⌜ Checked (rulesOf (now directory) (now words) (now bytes) (length (now «fact_text»)))
-        × Lent (now words) (now index) (now spare) (now paths) (now calls) (now frames) × MarksRoomy (now words) (now marks)
+        × Lent (now words) (now index) (now spare) (now paths) (now calls) × MarksRoomy (now words) (now marks)
         × FileOf (now tree) (now facts) (now «file_index») ⌝ }
     requires { ⌜ (isParseList (length (now «parse_text»)) (now parses) ≡ true) × (length (now out) ≤ 1048576)
         × AtHand (rulesOf (now directory) (now words) (now bytes) (length (now «fact_text»))) was (now spare) ⌝ }

@@ -50,6 +50,11 @@ pub record Shows (W : World) (rows : List ℕ) (end k : ℕ) (tree text : List �
   pub nested : NestedBefore W k end
   pub last : end ≤ W .count
 
+-- the frames have room for row k, and for the rows that may be nested in it
+pub record FramesFor (end k : ℕ) (frames : List ℕ) : Type 0 where
+  pub here : 22 * k + 22 ≤ length frames
+  pub nested : 22 * end ≤ length frames
+
 -- row k is in a captured text
 pub record AtCaptured (W : World) (rows : List ℕ) (end k : ℕ) (tree text frames out : List ℕ) (at : ℕ) : Type 0 where
   pub shows : Shows W rows end k tree text

@@ -7,7 +7,7 @@ use words::buffer;
 use words::buffer::Placed;
 use words::fields;
 use words::texts;
-ghost use Prim.Native.Nat.{_*_, _≤_, _<_};
+ghost use Prim.Native.Nat.{_+_, _*_, _≤_, _<_};
 ghost use lib.ListN.{length, drop};
 ghost use Rattle.words.specs.Fields.{startOf, endOf};
 ghost use Rattle.words.specs.Texts.{part};
@@ -15,7 +15,7 @@ ghost use Rattle.nester.specs.Rows.{field};
 ghost use Rattle.rows.specs.Rows.{World, bindingWord};
 ghost use Rattle.rows.specs.Frames.{passedOf, fromOf, originOf, entered, rowPassed, slotEnded, Keeps};
 ghost use Rattle.replacing.specs.Laying.{Lays, FramesThen};
-ghost use Rattle.replacing.specs.Steps.{AtCaptured, CapturedLeft};
+ghost use Rattle.replacing.specs.Steps.{FramesFor, AtCaptured, CapturedLeft};
 
 // The rest of a captured text, behind the last row that is nested in it.
 fn put_rest(
@@ -27,7 +27,7 @@ fn put_rest(
     out: &mut [u8],
     at: usize,
 ) -> Placed
-    requires { ⌜ (k ≤ 1023) × (slot < 8) × (22528 ≤ length (now frames)) × (passedOf (now frames) k < 16384) ⌝ }
+    requires { ⌜ (k ≤ 1023) × (slot < 8) × (22 * k + 22 ≤ length (now frames)) × (passedOf (now frames) k < 16384) ⌝ }
     requires { ⌜ (originOf (now frames) k ≤ 1048576) × (length (now out) ≤ 1048576) ⌝ }
     ensures { λ r. ⌜ Lays (now (out .entry)) at (part (now (text .entry)) (fromOf (now (frames .entry)) k) (bindingWord (now (rows .entry)) k slot 2)) (now (out .exit)) r ⌝ }
     ensures { λ r. ⌜ FramesThen (now (frames .entry)) (slotEnded (now (frames .entry)) k slot) (now (frames .exit)) r ⌝ }
@@ -54,7 +54,7 @@ fn put_before(
     out: &mut [u8],
     at: usize,
 ) -> Placed
-    requires { ⌜ (k ≤ 1023) × (j ≤ 1023) × (22528 ≤ length (now frames)) × (length (now out) ≤ 1048576) ⌝ }
+    requires { ⌜ (k ≤ 1023) × (22 * k + 22 ≤ length (now frames)) × (j ≤ 1023) × (22 * j + 22 ≤ length (now frames)) × (length (now out) ≤ 1048576) ⌝ }
     ensures { λ r. ⌜ Lays (now (out .entry)) at (part (now (text .entry)) (fromOf (now (frames .entry)) k) (startOf (drop (3 * field (now (rows .entry)) j 0) (now (tree .entry))))) (now (out .exit)) r ⌝ }
     ensures { λ r. ⌜ FramesThen (now (frames .entry)) (entered (rowPassed (now (frames .entry)) k j (endOf (drop (3 * field (now (rows .entry)) j 0) (now (tree .entry))))) j) (now (frames .exit)) r ⌝ }
 {
@@ -81,7 +81,7 @@ pub fn put_captured(
     out: &mut [u8],
     at: usize,
 ) -> Turn
-    requires { ⌜ (22528 ≤ length (now frames)) × (passedOf (now frames) k < 16384) × (length (now out) ≤ 1048576) ⌝ }
+    requires { ⌜ FramesFor end k (now frames) × (passedOf (now frames) k < 16384) × (length (now out) ≤ 1048576) ⌝ }
     requires { ⌜ ((W : World) × AtCaptured W (now rows) end k (now tree) (now text) (now frames) (now out) at) ⌝ }
     ensures { λ _. ⌜ Keeps k (now (frames .entry)) (now (frames .exit)) at (now (out .entry)) (now (out .exit)) ⌝ }
     ensures { λ r. ⌜ ((W : World) → AtCaptured W (now (rows .entry)) end k (now (tree .entry)) (now (text .entry)) (now (frames .entry)) (now (out .entry)) at → CapturedLeft W k (now (frames .entry)) (now (frames .exit)) (now (out .entry)) (now (out .exit)) at r) ⌝ }

@@ -5,7 +5,7 @@ use rows::told;
 use words::buffer;
 use words::buffer::Placed;
 ghost use mathlib.Core.Path.{_≡_};
-ghost use Prim.Native.Nat.{_+_, _-_, _≤_, _<_};
+ghost use Prim.Native.Nat.{_+_, _-_, _*_, _≤_, _<_};
 ghost use lib.ListN.{length, replicate};
 ghost use Rattle.rendering.specs.Texts.{captured, reference, prefix};
 ghost use Rattle.rows.specs.Told.{fragmentOf};
@@ -78,7 +78,7 @@ fn put_prefix(
 
 // Lays a slot's text once more.
 fn copy_slot(frames: &mut [u32], k: usize, slot: usize, out: &mut [u8], at: usize) -> Placed
-    requires { ⌜ (k ≤ 1023) × (slot < 8) × (22528 ≤ length (now frames)) × (passedOf (now frames) k < 16384) ⌝ }
+    requires { ⌜ (k ≤ 1023) × (slot < 8) × (22 * k + 22 ≤ length (now frames)) × (passedOf (now frames) k < 16384) ⌝ }
     requires { ⌜ (0 < slotStart (now frames) k slot) × (slotStart (now frames) k slot ≤ slotEnd (now frames) k slot + 1) × (slotEnd (now frames) k slot ≤ at) × (at ≤ length (now out)) ⌝ }
     ensures { λ r. ⌜ Lays (now (out .entry)) at (between (slotStart (now (frames .entry)) k slot - 1) (slotEnd (now (frames .entry)) k slot) (now (out .entry))) (now (out .exit)) r ⌝ }
     ensures { λ r. ⌜ FramesThen (now (frames .entry)) (λ _. piecePassed (now (frames .entry)) k) (now (frames .exit)) r ⌝ }
@@ -113,7 +113,7 @@ fn put_hole(
     out: &mut [u8],
     at: usize,
 ) -> Turn
-    requires { ⌜ (k ≤ 1023) × (slot < 8) × (22528 ≤ length (now frames)) × (passedOf (now frames) k < 16384) × (length (now out) ≤ 1048576) ⌝ }
+    requires { ⌜ (k ≤ 1023) × (slot < 8) × (22 * k + 22 ≤ length (now frames)) × (passedOf (now frames) k < 16384) × (length (now out) ≤ 1048576) ⌝ }
     requires { ⌜ ((W : World) × AtPiece W (now rows) k (captured slot receiver) (now frames) (now out) at) ⌝ }
     ensures { λ _. ⌜ Keeps k (now (frames .entry)) (now (frames .exit)) at (now (out .entry)) (now (out .exit)) ⌝ }
     ensures { λ r. ⌜ ((W : World) → AtPiece W (now (rows .entry)) k (captured slot receiver) (now (frames .entry)) (now (out .entry)) at → PieceLeft W k (now (frames .entry)) (now (frames .exit)) (now (out .entry)) (now (out .exit)) at r) ⌝ }
@@ -136,7 +136,7 @@ fn put_hole(
 
 // Bytes.
 fn put_text(frames: &mut [u32], k: usize, text: &[u8], out: &mut [u8], at: usize) -> Placed
-    requires { ⌜ (k ≤ 1023) × (22528 ≤ length (now frames)) × (passedOf (now frames) k < 16384) ⌝ }
+    requires { ⌜ (k ≤ 1023) × (22 * k + 22 ≤ length (now frames)) × (passedOf (now frames) k < 16384) ⌝ }
     ensures { λ r. ⌜ Lays (now (out .entry)) at (now (text .entry)) (now (out .exit)) r ⌝ }
     ensures { λ r. ⌜ FramesThen (now (frames .entry)) (λ _. piecePassed (now (frames .entry)) k) (now (frames .exit)) r ⌝ }
 {
@@ -160,7 +160,7 @@ pub fn put_piece<'a>(
     out: &mut [u8],
     at: usize,
 ) -> Turn
-    requires { ⌜ (k ≤ 1023) × (22528 ≤ length (now frames)) × (passedOf (now frames) k < 16384) × (length (now out) ≤ 1048576) ⌝ }
+    requires { ⌜ (k ≤ 1023) × (22 * k + 22 ≤ length (now frames)) × (passedOf (now frames) k < 16384) × (length (now out) ≤ 1048576) ⌝ }
     requires { ⌜ ((W : World) × AtPiece W (now rows) k (fragmentOf (now code) (now «fact_text») n) (now frames) (now out) at) ⌝ }
     ensures { λ _. ⌜ Keeps k (now (frames .entry)) (now (frames .exit)) at (now (out .entry)) (now (out .exit)) ⌝ }
     ensures { λ r. ⌜ ((W : World) → AtPiece W (now (rows .entry)) k (fragmentOf (now (code .entry)) (now («fact_text» .entry)) n) (now (frames .entry)) (now (out .entry)) at → PieceLeft W k (now (frames .entry)) (now (frames .exit)) (now (out .entry)) (now (out .exit)) at r) ⌝ }

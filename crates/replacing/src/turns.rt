@@ -10,7 +10,7 @@ ghost use lib.Dec.{ltb};
 ghost use lib.ListN.{length};
 ghost use Rattle.rows.specs.Rows.{World};
 ghost use Rattle.rows.specs.Frames.{passedOf, fillingOf, Keeps};
-ghost use Rattle.replacing.specs.Steps.{AtStep, StepLeft, StepsLeft};
+ghost use Rattle.replacing.specs.Steps.{FramesFor, AtStep, StepLeft, StepsLeft};
 
 // Whether row k is in a captured text, or has one of so many fragments left.
 fn goes_on(frames: &[u32], k: usize, count: usize) -> bool
@@ -34,7 +34,7 @@ fn take_step<'a>(
     out: &mut [u8],
     at: usize,
 ) -> Turn
-    requires { ⌜ (22528 ≤ length (now frames)) × (length (now table) ≤ 16384) × (length (now out) ≤ 1048576) × (fillingOf (now frames) k ≡ 0 → passedOf (now frames) k < length (now table)) ⌝ }
+    requires { ⌜ FramesFor end k (now frames) × (length (now table) ≤ 16384) × (length (now out) ≤ 1048576) × (fillingOf (now frames) k ≡ 0 → passedOf (now frames) k < length (now table)) ⌝ }
     requires { ⌜ ((W : World) × AtStep W (now rows) end k (now tree) (now text) (now table) (now code) (now «fact_text») (now frames) (now out) at) ⌝ }
     ensures { λ _. ⌜ Keeps k (now (frames .entry)) (now (frames .exit)) at (now (out .entry)) (now (out .exit)) ⌝ }
     ensures { λ r. ⌜ ((W : World) → AtStep W (now (rows .entry)) end k (now (tree .entry)) (now (text .entry)) (now (table .entry)) (now (code .entry)) (now («fact_text» .entry)) (now (frames .entry)) (now (out .entry)) at → StepLeft W k (now (frames .entry)) (now (frames .exit)) (now (out .entry)) (now (out .exit)) at r) ⌝ }
@@ -61,7 +61,7 @@ pub fn take_steps<'a>(
     out: &mut [u8],
     begin: usize,
 ) -> Turn
-    requires { ⌜ (22528 ≤ length (now frames)) × (length (now table) ≤ 16384) × (length (now out) ≤ 1048576) ⌝ }
+    requires { ⌜ FramesFor end k (now frames) × (length (now table) ≤ 16384) × (length (now out) ≤ 1048576) ⌝ }
     requires { ⌜ ((W : World) × AtStep W (now rows) end k (now tree) (now text) (now table) (now code) (now «fact_text») (now frames) (now out) begin) ⌝ }
     ensures { λ _. ⌜ Keeps k (now (frames .entry)) (now (frames .exit)) begin (now (out .entry)) (now (out .exit)) ⌝ }
     ensures { λ r. ⌜ ((W : World) → AtStep W (now (rows .entry)) end k (now (tree .entry)) (now (text .entry)) (now (table .entry)) (now (code .entry)) (now («fact_text» .entry)) (now (frames .entry)) (now (out .entry)) begin → StepsLeft W k (now (frames .entry)) (now (frames .exit)) (now (out .entry)) (now (out .exit)) r) ⌝ }

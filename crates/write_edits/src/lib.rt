@@ -10,7 +10,7 @@ use words::buffer::Placed;
 use words::fields;
 ghost use mathlib.Core.Path.{_≡_};
 ghost use mathlib.Core.Bool.{true};
-ghost use Prim.Native.Nat.{_+_, _≤_, _<_};
+ghost use Prim.Native.Nat.{_+_, _*_, _≤_, _<_};
 ghost use lib.ListN.{length, take};
 ghost use Rattle.words.specs.Buffer.{filled};
 ghost use Rattle.matcher.specs.FileFacts.{FileOf};
@@ -21,7 +21,7 @@ ghost use Rattle.rendering.specs.Traces.{Trace, within};
 ghost use Rattle.edits.specs.Answers.{answerOf, bytesOf};
 ghost use Rattle.nester.specs.Rows.{field};
 ghost use Rattle.rows.specs.Rows.{World, rowTrace};
-ghost use Rattle.render_replace.specs.Worlds.{handedOf, Shown, Checked, Lent, AtHand};
+ghost use Rattle.render_replace.specs.Worlds.{handedOf, Shown, Checked, Lent, HasFrames, AtHand};
 ghost use Rattle.render_replace.specs.Answers.{Answers};
 ghost use Rattle.write_edits.specs.Lists.{nodeStart, nodeEnd, editOver, rowEdit, rowEdits, editsWithin};
 
@@ -68,13 +68,13 @@ fn write_edit<'a>(
     at: usize,
 ) -> Rendered
     requires { ⌜ Checked (rulesOf (now directory) (now words) (now bytes) (length (now «fact_text»)))
-        × Lent (now words) (now index) (now spare) (now paths) (now calls) (now frames) × MarksRoomy (now words) (now marks)
+        × Lent (now words) (now index) (now spare) (now paths) (now calls) × MarksRoomy (now words) (now marks)
         × FileOf (now tree) (now facts) (now «file_index») ⌝ }
     requires { ⌜ (isParseList (length (now «parse_text»)) (now parses) ≡ true) × (length (now out) ≤ 1048576)
         × (at ≤ length (now out)) × AtHand (rulesOf (now directory) (now words) (now bytes) (length (now «fact_text»))) was (now spare) ⌝ }
     requires { ⌜ ((W : World) × Shown W
         (handedOf (now directory) (now words) (now bytes) (now «fact_text») (now tree) (now text) (now facts) range
-        (now parses) (now «parse_text») (now rows) (now links)) × (k < W .count)) ⌝ }
+        (now parses) (now «parse_text») (now rows) (now links)) × (k < W .count) × HasFrames W (now frames)) ⌝ }
     ensures { λ r. ⌜ (take at (now (out .exit)) ≡ take at (now (out .entry)))
         × AtHand
         (rulesOf (now (directory .entry)) (now (words .entry)) (now (bytes .entry)) (length (now («fact_text» .entry))))
@@ -83,7 +83,7 @@ fn write_edit<'a>(
         (handedOf (now (directory .entry)) (now (words .entry)) (now (bytes .entry)) (now («fact_text» .entry))
         (now (tree .entry)) (now (text .entry)) (now (facts .entry)) range (now (parses .entry)) (now («parse_text» .entry))
         (now (rows .entry)) (now (links .entry)))
-        → k < W .count → Answers (editOver (nodeStart (now (tree .entry)) (field (now (rows .entry)) k 0))
+        → k < W .count → HasFrames W (now (frames .entry)) → Answers (editOver (nodeStart (now (tree .entry)) (field (now (rows .entry)) k 0))
         (nodeEnd (now (tree .entry)) (field (now (rows .entry)) k 0)) (rowTrace W k)) at (now (out .exit)) (r .laid)) ⌝ }
 {
     let element = fields::tail(tree, 3 * (matches::word(rows, k, 0) as usize));
@@ -155,13 +155,13 @@ fn write_row<'a>(
     at: usize,
 ) -> Rendered
     requires { ⌜ Checked (rulesOf (now directory) (now words) (now bytes) (length (now «fact_text»)))
-        × Lent (now words) (now index) (now spare) (now paths) (now calls) (now frames) × MarksRoomy (now words) (now marks)
+        × Lent (now words) (now index) (now spare) (now paths) (now calls) × MarksRoomy (now words) (now marks)
         × FileOf (now tree) (now facts) (now «file_index») ⌝ }
     requires { ⌜ (isParseList (length (now «parse_text»)) (now parses) ≡ true) × (length (now out) ≤ 1048576)
         × (at ≤ length (now out)) × AtHand (rulesOf (now directory) (now words) (now bytes) (length (now «fact_text»))) was (now spare) ⌝ }
     requires { ⌜ ((W : World) × Shown W
         (handedOf (now directory) (now words) (now bytes) (now «fact_text») (now tree) (now text) (now facts) range
-        (now parses) (now «parse_text») (now rows) (now links)) × (k < W .count)) ⌝ }
+        (now parses) (now «parse_text») (now rows) (now links)) × (k < W .count) × HasFrames W (now frames)) ⌝ }
     ensures { λ r. ⌜ (take at (now (out .exit)) ≡ take at (now (out .entry)))
         × AtHand
         (rulesOf (now (directory .entry)) (now (words .entry)) (now (bytes .entry)) (length (now («fact_text» .entry))))
@@ -170,7 +170,7 @@ fn write_row<'a>(
         (handedOf (now (directory .entry)) (now (words .entry)) (now (bytes .entry)) (now («fact_text» .entry))
         (now (tree .entry)) (now (text .entry)) (now (facts .entry)) range (now (parses .entry)) (now («parse_text» .entry))
         (now (rows .entry)) (now (links .entry)))
-        → k < W .count → Answers (rowEdit (now (tree .entry)) W k) at (now (out .exit)) (r .laid)) ⌝ }
+        → k < W .count → HasFrames W (now (frames .entry)) → Answers (rowEdit (now (tree .entry)) W k) at (now (out .exit)) (r .laid)) ⌝ }
 {
     if matches::word(rows, k, 2) == 2 {
         return write_edit(
@@ -230,9 +230,9 @@ fn write_rows<'a>(
     out: &mut [u8],
 ) -> Laid
     requires { ⌜ Checked (rulesOf (now directory) (now words) (now bytes) (length (now «fact_text»)))
-        × Lent (now words) (now index) (now spare) (now paths) (now calls) (now frames) × MarksRoomy (now words) (now marks)
+        × Lent (now words) (now index) (now spare) (now paths) (now calls) × MarksRoomy (now words) (now marks)
         × FileOf (now tree) (now facts) (now «file_index») ⌝ }
-    requires { ⌜ (isParseList (length (now «parse_text»)) (now parses) ≡ true) × (length (now out) ≤ 1048576) ⌝ }
+    requires { ⌜ (isParseList (length (now «parse_text»)) (now parses) ≡ true) × (length (now out) ≤ 1048576) × (22 * count ≤ length (now frames)) ⌝ }
     requires { ⌜ ((W : World) × Shown W
         (handedOf (now directory) (now words) (now bytes) (now «fact_text») (now tree) (now text) (now facts) range
         (now parses) (now «parse_text») (now rows) (now links)) × (W .count ≡ count)) ⌝ }
@@ -328,9 +328,9 @@ pub fn write_edits<'a>(
     out: &mut [u8],
 ) -> Edited
     requires { ⌜ Checked (rulesOf (now directory) (now words) (now bytes) (length (now «fact_text»)))
-        × Lent (now words) (now index) (now spare) (now paths) (now calls) (now frames) × MarksRoomy (now words) (now marks)
+        × Lent (now words) (now index) (now spare) (now paths) (now calls) × MarksRoomy (now words) (now marks)
         × FileOf (now tree) (now facts) (now «file_index») ⌝ }
-    requires { ⌜ (isParseList (length (now «parse_text»)) (now parses) ≡ true) × (length (now out) ≤ 1048576) ⌝ }
+    requires { ⌜ (isParseList (length (now «parse_text»)) (now parses) ≡ true) × (length (now out) ≤ 1048576) × (22 * count ≤ length (now frames)) ⌝ }
     requires { ⌜ ((W : World) × Shown W
         (handedOf (now directory) (now words) (now bytes) (now «fact_text») (now tree) (now text) (now facts) range
         (now parses) (now «parse_text») (now rows) (now links)) × (W .count ≡ count)) ⌝ }

@@ -1,24 +1,29 @@
 -- `job::write_checked` meets its contract.
 -- Assumes nothing.
+use native.Mathlib.Omega.{arith}
 use borrow.Author.Needs.{needs}
 use Rattle.job.proofs.write_checked.Statement.{statement}
 use Rattle.job.proofs.write_checked.Tie as tie
 
-write-in-requires : tie.Need-write-in-requires
-write-in-requires c κs =
-    let p = c .before .before .before .before .before .before .before .before .before .before .before .before .before .before .before .before .before .before .before .before .before .before .before .before .before .before .before .pre in (
-      (record { roomy = p .0 .0; for-parts = p .1 .0 .0; for-flags = p .1 .0 .1; for-frames = search needs }, p .0 .1),
-      (p .1 .1 .0, search needs, search needs, p .1 .1 .1),
-    )
+write-few-requires : tie.Need-write-few-requires
+write-few-requires c κs =
+    let p = c .before .before .before .before .before .before .before .before .before .before .before .before .before .before .before .before .before .before .before .before .before .before .before .before .before .before .pre in
+    (p .0, (p .1 .0, (p .1 .1 .0, p .1 .1 .1, omega (arith, c .before .before .before .before .before .before .if1 .taken, c .before .before .before .before .before .before .before .count-candidates .ensures))))
 
 pub write-checked-spec : {M : Type 1} → statement M
 write-checked-spec =
     tie.close
     (tie.spec
+    (λ c κs. search needs)
+    write-few-requires
     (λ c. search needs)
     (λ c. search needs)
     (λ c. search needs)
-    write-in-requires
+    (λ c. search needs)
+    (λ c. search needs)
+    (λ c. search needs)
+    (λ c. search needs)
+    (λ c κs. search needs)
     (λ c. search needs)
     (λ c. search needs)
     (λ c. search needs)

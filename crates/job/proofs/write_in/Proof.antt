@@ -4,6 +4,7 @@ use mathlib.Core.List.{List}
 use mathlib.Core.Path.{_≡_, refl, sym, ap, _∙_}
 use Prim.Native.Nat.{ℕ}
 use lib.ListN.{length}
+use native.Mathlib.Omega.{arith}
 use borrow.Author.Needs.{needs}
 use denote.Ref.{now}
 use Rattle.words.specs.Buffer.{filled}
@@ -24,20 +25,20 @@ asked s =
     (now (a .parses)) (now (a .parse-text)) (now (a .candidates)) (a .range)
 
 nest-candidates-requires : tie.Need-nest-candidates-requires
-nest-candidates-requires c κs = let p = c .before .before .before .before .before .before .before .before .before .before .before .before .before .before .before .before .before .before .before .before .before .before .before .before .before .before .before .before .pre in ((p .0 .0 .roomy, p .0 .1), (p .1 .0, p .1 .1, p .1 .2))
+nest-candidates-requires c κs = let p = c .before .before .before .before .before .before .before .before .before .before .before .before .before .before .before .before .before .before .before .before .before .before .before .before .before .before .before .before .pre in ((p .0 .0 .roomy, p .0 .1), (p .1 .0 .0, p .1 .1 .0, p .1 .1 .1))
 
 write-edits-requires : tie.Need-write-edits-requires
 write-edits-requires c κs =
-    let s = c .before .before .before .before .before .before .before .before .before .before .before .before .before .before .before .before .before .before .before .before .before .before .before .before .before .before .before .before .before .before .before .before .before .before .before .before .before .before .before .before .before .before .before .before .before .before .before .before .before .before .before .before .before in let a = s .args in let p = s .pre in let n = c .before .before .before .before .before .before .before .before .before .before .before .before .before .before .before .before .before .before .before .before .before .before .before .before .nest-candidates in let ch = p .1 .0 in let k = n .kept in (
+    let s = c .before .before .before .before .before .before .before .before .before .before .before .before .before .before .before .before .before .before .before .before .before .before .before .before .before .before .before .before .before .before .before .before .before .before .before .before .before .before .before .before .before .before .before .before .before .before .before .before .before .before .before .before .before in let a = s .args in let p = s .pre in let n = c .before .before .before .before .before .before .before .before .before .before .before .before .before .before .before .before .before .before .before .before .before .before .before .before .nest-candidates in let ch = p .1 .0 .0 in let k = n .kept in (
       (
         record { trees = ch .trees; paths = ch .resolved },
-        lent-after {marks₀ = now (a .marks)} {out₀ = now (a .out)} {marks = n .last .1 .1 .1 .1 .1 .1 .1 .1 .1 .1 .1 .1 .1 .1 .1 .1 .1 .0} {out = now (a .out)} (p .0 .0)
+        lent-after {frames₀ = now (a .frames)} {marks₀ = now (a .marks)} {out₀ = now (a .out)} {frames = now (a .frames)} {marks = n .last .1 .1 .1 .1 .1 .1 .1 .1 .1 .1 .1 .1 .1 .1 .1 .1 .1 .0} {out = now (a .out)} (p .0 .0)
             (record { of-frames = refl; of-index = k .1 .1 .1 .1 .1 .1 .1 .1 .1 .1 .1 .1 .1 .0; of-spare = k .1 .1 .1 .1 .1 .1 .1 .1 .1 .1 .1 .1 .1 .1 .0; of-paths = k .1 .1 .1 .1 .1 .1 .1 .1 .1 .1 .1 .1 .1 .1 .1 .0; of-calls = k .1 .1 .1 .1 .1 .1 .1 .1 .1 .1 .1 .1 .1 .1 .1 .1 .0; of-marks = k .1 .1 .1 .1 .1 .1 .1 .1 .1 .1 .1 .1 .1 .1 .1 .1 .1 .0; of-out = refl }),
         marks-after (now (a .words)) (now (a .marks)) (n .last .1 .1 .1 .1 .1 .1 .1 .1 .1 .1 .1 .1 .1 .1 .1 .1 .1 .0) (p .0 .1) (k .1 .1 .1 .1 .1 .1 .1 .1 .1 .1 .1 .1 .1 .1 .1 .1 .1 .0),
         record { formed = ch .formed; indexed = ch .indexed },
       ),
       (
-        (ch .parsed, p .1 .3),
+        (ch .parsed, p .1 .0 .1, omega (arith, p .1 .1 .2, c .before .before .before .before .before .before .before .before .before .count-candidates .ensures)),
         (worldIn (asked s) (n .last .1 .1 .1 .1 .1 .1 .1 .1 .1 .1 .1 .1 .1 .1 .1 .1 .1 .1 .0), n .ensures .shown, sym (c .before .before .before .before .before .before .before .before .before .count-candidates .ensures)),
       ),
     )

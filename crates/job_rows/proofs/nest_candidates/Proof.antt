@@ -1,10 +1,11 @@
 -- `job_rows::nest_candidates` meets its contract.
 -- Assumes nothing.
-use Prim.Native.Nat.{_≤_}
+use Prim.Native.Nat.{_*_, _≤_}
 use native.Mathlib.Omega.{arith}
 use lib.ListN.{length}
 use borrow.Author.Needs.{needs}
 use denote.Ref.{now}
+use Rattle.candidates.specs.Candidates.{candidateCount}
 use Rattle.job_rows.proofs.KeyLaws.{count-is, keys-asked}
 use Rattle.job_rows.proofs.ShownLaws.{may-nest, may-link, rows-of}
 use Rattle.job_rows.proofs.nest_candidates.Statement.{statement}
@@ -23,10 +24,12 @@ abbrev gathered : tie.After-nest-and-remove-collisions → tie.After-gather-all
 gathered t = t .before .before .before .before .before .before .before .before .before .before .before .before .before .before .before .before
 
 -- gathering keeps the lengths of rows and links
-long : (g : tie.After-gather-all) → 45056 ≤ length (g .gather-all .last .1 .1 .1 .1 .1 .1 .1 .1 .1 .1 .1 .1 .1 .1 .1 .1 .0)
+long : (g : tie.After-gather-all)
+    → candidateCount (now (start (counted g) .args .candidates)) * 44 ≤ length (g .gather-all .last .1 .1 .1 .1 .1 .1 .1 .1 .1 .1 .1 .1 .1 .1 .1 .1 .0)
 long g = omega (arith, start (counted g) .pre .1 .1, g .gather-all .kept .1 .1 .1 .1 .1 .1 .1 .1 .1 .1 .1 .1 .1 .1 .1 .1 .0)
 
-wide : (g : tie.After-gather-all) → 3072 ≤ length (g .gather-all .last .1 .1 .1 .1 .1 .1 .1 .1 .1 .1 .1 .1 .1 .1 .1 .1 .1 .0)
+wide : (g : tie.After-gather-all)
+    → 3 * candidateCount (now (start (counted g) .args .candidates)) ≤ length (g .gather-all .last .1 .1 .1 .1 .1 .1 .1 .1 .1 .1 .1 .1 .1 .1 .1 .1 .1 .0)
 wide g = omega (arith, start (counted g) .pre .1 .2, g .gather-all .kept .1 .1 .1 .1 .1 .1 .1 .1 .1 .1 .1 .1 .1 .1 .1 .1 .1 .0)
 
 slice-aggregate-gather-all : tie.Need-slice-aggregate-gather-all

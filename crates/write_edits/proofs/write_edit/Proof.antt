@@ -36,7 +36,7 @@ put-length-requires c κs =
       omega (arith, pre .1 .0 .1, p .kept .0, r .kept .1 .1 .1 .1 .1 .1 .1 .1 .1 .1 .1 .1 .1 .1 .1 .1 .1 .1 .1 .1 .1 .0),
       (
         rowTrace (w .0) (a .k),
-        subst (λ (n : ℕ). Answers (rowTrace (w .0) (a .k)) n (r .last .1 .1 .1 .1 .1 .1 .1 .1 .1 .1 .1 .1 .1 .1 .1 .1 .1 .1 .1 .1 .1 .0) (r .result .laid)) (sym (q .0)) (r .ensures .1 (w .0) (w .1) (w .2)),
+        subst (λ (n : ℕ). Answers (rowTrace (w .0) (a .k)) n (r .last .1 .1 .1 .1 .1 .1 .1 .1 .1 .1 .1 .1 .1 .1 .1 .1 .1 .1 .1 .1 .1 .0) (r .result .laid)) (sym (q .0)) (r .ensures .1 (w .0) (w .1) (w .2) (w .3)),
       ),
     )
 
@@ -56,11 +56,11 @@ returns c =
         put .ensures .0 ∙ before-less (a .at) (b .0 .0) (p .last .0) o (omega (arith, q .0)) (r .ensures .0 .0) ∙ q .2,
         r .ensures .0 .1,
       ),
-      λ W shown inside.
+      λ W shown inside all.
           subst (λ (m : ℕ). Answers (editOver m (nodeEnd (now (a .tree)) (field (now (a .rows)) (a .k) 0)) (rowTrace W (a .k))) (a .at) (put .last .0) (r .result .laid)) start
           (subst (λ (m : ℕ). Answers (editOver (c .before .before .before .before .before .before .before .before .before .before .before .before .before .before .before .before .before .before .before .before .before .before .before .before .before .before .before .before .before .before .before .before .before .before .before .start .result) m (rowTrace W (a .k))) (a .at) (put .last .0) (r .result .laid)) end
           (put .ensures .1 (rowTrace W (a .k))
-          (subst (λ (n : ℕ). Answers (rowTrace W (a .k)) n o (r .result .laid)) (sym (q .0)) (r .ensures .1 W shown inside)))),
+          (subst (λ (n : ℕ). Answers (rowTrace W (a .k)) n o (r .result .laid)) (sym (q .0)) (r .ensures .1 W shown inside all)))),
     )
 
 returns-2 : tie.Need-returns-2
@@ -68,7 +68,7 @@ returns-2 c =
     let s = c .before .before .before .before .before .before .before .before .before .before .before .before .before .before .before .before .before .before .before .before .before .before .before .before .before .before .before .before .before in let a = s .args in let p = c .before .before .before .before .put-edit in
     let q = words-full _ _ (now (a .out)) (p .last .0) (a .at) (p .ensures .1) (sym (p .ensures .0) ∙ c .enum-told .given .1) in (
       (ap (take (a .at)) (q .1), s .pre .1 .0 .3),
-      λ W shown inside. omega (arith, q .0, p .kept .0, reach-over (nodeStart (now (a .tree)) (field (now (a .rows)) (a .k) 0)) (nodeEnd (now (a .tree)) (field (now (a .rows)) (a .k) 0)) (rowTrace W (a .k))),
+      λ W shown inside all. omega (arith, q .0, p .kept .0, reach-over (nodeStart (now (a .tree)) (field (now (a .rows)) (a .k) 0)) (nodeEnd (now (a .tree)) (field (now (a .rows)) (a .k) 0)) (rowTrace W (a .k))),
     )
 
 pub write-edit-spec : {M : Type 1} → statement M

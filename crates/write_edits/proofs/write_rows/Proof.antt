@@ -15,7 +15,7 @@ use Rattle.rows.specs.Rows.{World}
 use Rattle.rows.specs.Frames.{between}
 use Rattle.rows.proofs.BetweenLaws.{between-none}
 use Rattle.render_replace.specs.declared.turns.Laid.the-variants.{At}
-use Rattle.render_replace.specs.Worlds.{handedOf, Shown, AtHand}
+use Rattle.render_replace.specs.Worlds.{handedOf, Shown, HasFrames, AtHand}
 use Rattle.render_replace.specs.Answers.{Stops, Answers}
 use Rattle.render_replace.proofs.TurnLaws.{none-at-hand}
 use Rattle.render_replace.proofs.RunLaws.{Sizes, lent-after, marks-after}
@@ -49,6 +49,10 @@ sizes c = let s = c .before .before .before .before .before .before .before .bef
   of-out = k .1 .1 .1 .1 .1 .1 .1 .1 .1 .1 .1 .1 .1 .1 .1 .1 .1 .1 .1 .1 .1 .0 ∙ s .of-out;
 }
 
+-- and each row has a frame
+framed : (c : tie.After-write-row Inv-loop μ-loop) (W : World) → W .count ≡ c .before .before .before .before .before .before .before .before .before .before .before .before .before .before .before .before .before .before .before .before .before .before .before .before .before .before .before .before .before .before .args .count → HasFrames W (c .before .before .before .before .before .before .before .before .before .loop .frames)
+framed c W n = omega (arith, n, c .before .before .before .before .before .before .before .before .before .before .before .before .before .before .before .before .before .before .before .before .before .before .before .before .before .before .before .before .before .before .pre .1 .0 .2, c .before .before .before .before .before .before .before .before .before .loop .inv .0 .of-frames)
+
 loop-holds : tie.Need-loop-holds Inv-loop μ-loop
 loop-holds c = (
   record { of-frames = refl; of-index = refl; of-spare = refl; of-paths = refl; of-calls = refl; of-marks = refl; of-out = refl },
@@ -63,7 +67,7 @@ write-row-requires c κs =
       (p .0 .0, lent-after (p .0 .1) (i .0), marks-after (now (s .args .words)) (now (s .args .marks)) (l .marks) (p .0 .2) (i .0 .of-marks), p .0 .3),
       (
         (p .1 .0 .0, omega (arith, p .1 .0 .1, i .0 .of-out), i .3 (w .0) (w .1) (w .2) .1, i .2),
-        (w .0, w .1, omega (arith, w .2, c .before .before .before .before .before .before .before .loop-test .taken)),
+        (w .0, w .1, omega (arith, w .2, c .before .before .before .before .before .before .before .loop-test .taken), omega (arith, w .2, p .1 .0 .2, i .0 .of-frames)),
       ),
     )
 
@@ -76,7 +80,7 @@ loop-again c =
       r .ensures .0 .1,
       λ W shown n. subst (λ (u : Trace). Answers u 0 o (At (e .0 .0))) (sym (first-next tree W (l .k)))
           (answers-more (l .out) (l .inv .3 W shown n) o (r .kept .1 .1 .1 .1 .1 .1 .1 .1 .1 .1 .1 .1 .1 .1 .1 .1 .1 .1 .1 .1 .1 .0) (r .ensures .0 .0)
-          (rw (e .1) at (r .ensures .1 W shown (omega (arith, n, t))))),
+          (rw (e .1) at (r .ensures .1 W shown (omega (arith, n, t)) (framed (c .before .before .before .before .before .before .before .before .before .before .before .before .before .before .before .before .before .before) W n)))),
     )
 
 returns : tie.Need-returns Inv-loop μ-loop
@@ -84,20 +88,20 @@ returns c = λ W shown n.
     let a = c .before .before .before .before .before .before .before .before .before .before .before .before .before .before .before .before .before .before .before .before .before .before .before .before .before .before .before .before .before .before .before .before .before .before .before .before .before .before .before .before .before .before .before .before .before .before .before .args in let l = c .before .before .before .before .before .before .before .before .before .before .before .before .before .before .before .before .before .before .before .before .before .before .before .before .before .before .loop in let r = c .before .before .before .before .before .before .before .before .before .before .before .before .before .before .before .before .before .write-row in let o = r .last .1 .1 .1 .1 .1 .1 .1 .1 .1 .1 .1 .1 .1 .1 .1 .1 .1 .1 .1 .1 .1 .0 in
     let h : l .k < W .count = omega (arith, n, c .before .before .before .before .before .before .before .before .before .before .before .before .before .before .before .before .before .before .before .before .before .before .before .before .before .loop-test .taken) in let all = all-edits (now (a .tree)) W (l .k) h in
     subst (λ (u : Trace). Stops u 0 o Event.Unbound) (sym (all .1))
-    (stops-later (l .out) (l .inv .3 W shown n) o (r .kept .1 .1 .1 .1 .1 .1 .1 .1 .1 .1 .1 .1 .1 .1 .1 .1 .1 .1 .1 .1 .1 .0) (all .0) (rw (c .enum-told .given .1) at (r .ensures .1 W shown h)))
+    (stops-later (l .out) (l .inv .3 W shown n) o (r .kept .1 .1 .1 .1 .1 .1 .1 .1 .1 .1 .1 .1 .1 .1 .1 .1 .1 .1 .1 .1 .1 .0) (all .0) (rw (c .enum-told .given .1) at (r .ensures .1 W shown h (framed (c .before .before .before .before .before .before .before .before .before .before .before .before .before .before .before .before .before) W n))))
 
 returns-2 : tie.Need-returns-2 Inv-loop μ-loop
 returns-2 c = λ W shown n.
     let a = c .before .before .before .before .before .before .before .before .before .before .before .before .before .before .before .before .before .before .before .before .before .before .before .before .before .before .before .before .before .before .before .before .before .before .before .before .before .before .before .before .before .before .before .before .before .before .before .args in let l = c .before .before .before .before .before .before .before .before .before .before .before .before .before .before .before .before .before .before .before .before .before .before .before .before .before .before .loop in let r = c .before .before .before .before .before .before .before .before .before .before .before .before .before .before .before .before .before .write-row in let o = r .last .1 .1 .1 .1 .1 .1 .1 .1 .1 .1 .1 .1 .1 .1 .1 .1 .1 .1 .1 .1 .1 .0 in
     let h : l .k < W .count = omega (arith, n, c .before .before .before .before .before .before .before .before .before .before .before .before .before .before .before .before .before .before .before .before .before .before .before .before .before .loop-test .taken) in let all = all-edits (now (a .tree)) W (l .k) h in
     subst (λ (u : Trace). length o < 0 + reach u) (sym (all .1))
-    (full-later (l .out) (l .inv .3 W shown n) o (r .kept .1 .1 .1 .1 .1 .1 .1 .1 .1 .1 .1 .1 .1 .1 .1 .1 .1 .1 .1 .1 .1 .0) _ (all .0) (rw (c .enum-told2 .given .1) at (r .ensures .1 W shown h)))
+    (full-later (l .out) (l .inv .3 W shown n) o (r .kept .1 .1 .1 .1 .1 .1 .1 .1 .1 .1 .1 .1 .1 .1 .1 .1 .1 .1 .1 .1 .1 .0) _ (all .0) (rw (c .enum-told2 .given .1) at (r .ensures .1 W shown h (framed (c .before .before .before .before .before .before .before .before .before .before .before .before .before .before .before .before .before) W n))))
 
 returns-3 : tie.Need-returns-3 Inv-loop μ-loop
 returns-3 c = λ W shown n.
     let a = c .before .before .before .before .before .before .before .before .before .before .before .before .before .before .before .before .before .before .before .before .before .before .before .before .before .before .before .before .before .before .before .before .before .before .before .before .before .before .before .before .before .before .before .before .before .before .before .before .args in let l = c .before .before .before .before .before .before .before .before .before .before .before .before .before .before .before .before .before .before .before .before .before .before .before .before .before .before .before .loop in let r = c .before .before .before .before .before .before .before .before .before .before .before .before .before .before .before .before .before .before .write-row in let o = r .last .1 .1 .1 .1 .1 .1 .1 .1 .1 .1 .1 .1 .1 .1 .1 .1 .1 .1 .1 .1 .1 .0 in
     let h : l .k < W .count = omega (arith, n, c .before .before .before .before .before .before .before .before .before .before .before .before .before .before .before .before .before .before .before .before .before .before .before .before .before .before .loop-test .taken) in let all = all-edits (now (a .tree)) W (l .k) h in
-    let e = c .before .laid2 .given in let k = rw (e .1) at (r .ensures .1 W shown h) in (
+    let e = c .before .laid2 .given in let k = rw (e .1) at (r .ensures .1 W shown h (framed (c .before .before .before .before .before .before .before .before .before .before .before .before .before .before .before .before .before .before) W n)) in (
       k .0,
       k .1,
       subst (λ (u : Trace). Stops u 0 o (Event.Asked (e .0 .0) (between (e .0 .1 .0) (e .0 .1 .1 .0) o))) (sym (all .1)) (stops-later (l .out) (l .inv .3 W shown n) o (r .kept .1 .1 .1 .1 .1 .1 .1 .1 .1 .1 .1 .1 .1 .1 .1 .1 .1 .1 .1 .1 .1 .0) (all .0) (k .2)),

@@ -13,7 +13,7 @@ use Rattle.fragments.specs.Pairs.{pairAt, codeOf}
 use Rattle.nester.specs.Rows.{field}
 use Rattle.readying.specs.Ready.{ruleForm, TemplateOf}
 use Rattle.collections.specs.Links.{linkWord}
-use Rattle.render_replace.proofs.TurnLaws.{template-as, code-at, at-template}
+use Rattle.render_replace.proofs.TurnLaws.{template-as, code-at, frames-for, at-template}
 use Rattle.render_replace.proofs.turns.ready_row.Statement.{statement}
 use Rattle.render_replace.proofs.turns.ready_row.Tie as tie
 
@@ -56,7 +56,7 @@ render-row-requires : tie.Need-render-row-requires
 render-row-requires c κs =
     let m = c .before .before .before .before .before .before .before .before .before .before .before .before .before .before .before .before in let s = start m in let p = s .pre in let h = p .1 .1 .3 in let t = is-template m in let r = m .make-ready in
     let l = p .0 .1 in let n = length-take-le (r .result .count) (r .last .1 .1 .1 .1 .1 .1 .1 .1 .0) (t .within) in (
-      (l .for-frames, omega (arith, n, t .few), p .1 .0 .1, p .1 .0 .0),
+      (frames-for h _ (c .before .before .before .before .before .before .before .before .before .before .before .before .before .before .before .before .before .before .before .before .before .link2 .ensures), omega (arith, n, t .few), p .1 .0 .1, p .1 .0 .0),
       (
         (
           omega (arith, n, t .within, l .for-parts, r .kept .1 .1 .1 .1 .1 .1 .1 .1 .0, r .kept .1 .1 .1 .1 .1 .1 .1 .1 .1 .0),

@@ -50,7 +50,7 @@ put-piece-requires c κs =
     ) in let low = p .0 .3 none in (
       (
         omega (arith, p .1 .1 .shows .inside, p .1 .1 .shows .few),
-        p .0 .0,
+        p .0 .0 .here,
         omega
             (arith, p .0, low),
         p .0 .2,

@@ -31,7 +31,10 @@ take-step-requires c κs =
     let c₁₄ = c₅ .before .before .before .before .before .before .before .before .before in
     let l = c₅ .loop in let s = c₁₄ in let p = s .pre in let i = l .inv in (
       (
-        omega (arith, p .0, i .keeps .frames-length),
+        record {
+          here = omega (arith, p .0 .0 .here, i .keeps .frames-length);
+          nested = omega (arith, p .0 .0 .nested, i .keeps .frames-length);
+        },
         p .0 .1,
         omega (
           arith,

@@ -1,0 +1,28 @@
+-- `job::write_many` meets its contract.
+-- Assumes nothing.
+use borrow.Author.Needs.{needs}
+use Rattle.job.proofs.write_many.Statement.{statement}
+use Rattle.job.proofs.write_many.Tie as tie
+
+write-in-requires : tie.Need-write-in-requires
+write-in-requires c κs =
+    let p = c .before .before .before .before .before .before .before .before .before .before .before .before .before .before .before .before .before .before .before .before .before .before .before .before .before .before .before .pre in let few = p .1 .1 .0 .fewCandidates in (
+      (record { roomy = p .0 .0; for-parts = p .1 .0 .0; for-flags = p .1 .0 .1 }, p .0 .1),
+      (p .1 .1, (search needs, search needs, search needs)),
+    )
+
+pub write-many-spec : {M : Type 1} → statement M
+write-many-spec =
+    tie.close
+    (tie.spec
+    (λ c. search needs)
+    (λ c. search needs)
+    (λ c. search needs)
+    write-in-requires
+    (λ c. search needs)
+    (λ c. search needs)
+    (λ c. search needs)
+    (λ c. search needs)
+    (λ c. search needs)
+    (λ c. search needs)
+    (λ c. search needs))
