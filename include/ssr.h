@@ -35,10 +35,13 @@ extern "C" {
 /* How many lengths a row of the directory has. */
 #define SSR_ROW_LENGTHS 27
 
-/* The most rules that are left and candidates of a job, and how many words a candidate has. */
+/* The most rules that are left and candidates of a job, and how many words a candidate has; the most matches
+ * of a walk.
+ */
 #define SSR_RULES 16
 #define SSR_CANDIDATES 1024
 #define SSR_CANDIDATE_WORDS 2
+#define SSR_MATCHES 1024
 
 /* The most bytes of `out` that are used, and how many an edit has before its replacement. */
 #define SSR_BUFFER_BYTES 1048576
@@ -80,8 +83,9 @@ typedef enum ssr_refusal {
     SSR_UNRESOLVED_PATH = 22,          /* a path that must resolve has no fact */
     /* Of what is asked for. */
     SSR_NO_SUCH_NODE_OR_RULE = 23,     /* no such node or rule, or a range whose start is after its end */
-    /* Of a job. */
-    SSR_TOO_MANY_RULES_OR_CANDIDATES = 24, /* over SSR_RULES rules or SSR_CANDIDATES candidates */
+    /* Of a job or a walk. */
+    SSR_TOO_MANY_RULES_OR_CANDIDATES = 24, /* over SSR_RULES rules; over SSR_CANDIDATES candidates of a job, or
+                                              SSR_MATCHES matches of a walk */
     SSR_NO_SUCH_CANDIDATE = 25,        /* a candidate without such node or rule, or 23's range */
     SSR_REPEATED_CANDIDATE = 26,       /* a pair of node and rule twice */
     SSR_NO_TEMPLATE = 27,              /* a rule without template */
@@ -263,7 +267,7 @@ typedef struct ssr_match_node_answer {
 /* Matching one node of a file with one rule: node is the number of an element of the file's tree. With
  * range_given 0 the range is not looked at; else only a node that lies in it matches, where both ends may be
  * the node's own. `out` holds the texts of the noted comments in turn, without a match nothing. It uses less
- * than 2 MB of stack.
+ * than 2 MiB of stack.
  * Refusals: the stages, with 18 to 21 of the file's tree among those of the rules'; then 23; last 16.
  */
 ssr_match_node_answer ssr_match_node(const uint32_t *directory, size_t directory_length,
@@ -304,7 +308,7 @@ typedef struct ssr_job_answer {
  * that were answered (and without ranges if it does not parse) to those handed in, and call again; it is not
  * asked for a second time.
  *
- * It uses less than 2 MB of stack.
+ * It uses less than 2 MiB of stack.
  * Refusals: the stages (1 to 15; 18 to 21, with those of the file's tree; 17; 22); then 24, 25, 26, 27, 28;
  * then, as the list is written from front to back, the first that is met of 29, 30 and the answer asked.
  */
@@ -320,6 +324,27 @@ ssr_job_answer ssr_job(const uint32_t *directory, size_t directory_length,
                        const uint32_t *candidates, size_t candidates_length,
                        uint32_t range_given, size_t range_start, size_t range_end,
                        uint8_t *out, size_t out_length);
+
+/* The whole-file walk: a job whose candidates are every node of the file's tree, the root and empty nodes too,
+ * with every rule that is left. Parses, range, edit list and the answer asked are as for a job. Its candidates
+ * have no limit of their own: what is counted is those that match, before they are nested.
+ *
+ * It uses less than 2 MiB of stack.
+ * Refusals: the stages (1 to 15; 18 to 21, with those of the file's tree; 17; 22); then 24 over SSR_RULES rules;
+ * 25 of the range; 27; 24 over SSR_MATCHES matches; 28; then, as the list is written from front to back, the
+ * first that is met of 29, 30 and the answer asked.
+ */
+ssr_job_answer ssr_walk(const uint32_t *directory, size_t directory_length,
+                        const uint32_t *words, size_t words_length,
+                        const uint8_t *bytes, size_t bytes_length,
+                        const uint8_t *fact_text, size_t fact_text_length,
+                        const uint32_t *tree, size_t tree_length,
+                        const uint8_t *text, size_t text_length,
+                        const uint32_t *facts, size_t facts_length,
+                        const uint32_t *parses, size_t parses_length,
+                        const uint8_t *parse_text, size_t parse_text_length,
+                        uint32_t range_given, size_t range_start, size_t range_end,
+                        uint8_t *out, size_t out_length);
 
 #ifdef __cplusplus
 }

@@ -260,6 +260,17 @@ static void lay_bindings(answer *a, const ssr_binding *bindings)
     }
 }
 
+/* Whether the answer of a job or a walk is the expected one. */
+static int is_edited(ssr_job_answer found, part expected)
+{
+    answer a = {{0}, 0, 0};
+    lay(&a, found.refusal);
+    lay(&a, found.asked);
+    lay(&a, found.kind);
+    lay(&a, found.length);
+    return is_answer(&a, expected);
+}
+
 /* Operations: whether each answers as its record expects. */
 
 static int read_tokens(record *r)
@@ -421,12 +432,31 @@ static int job(record *r)
                 fact_text.at, fact_text.length, tree.at, tree.length, text.at, text.length,
                 facts.at, facts.length, parses.at, parses.length, parse_text.at, parse_text.length,
                 candidates.at, candidates.length, range_given, range_start, range_end, out.at, out.length);
-    answer a = {{0}, 0, 0};
-    lay(&a, found.refusal);
-    lay(&a, found.asked);
-    lay(&a, found.kind);
-    lay(&a, found.length);
-    return is_answer(&a, next_part(r)) && is_stored(out.at, out.length, left);
+    return is_edited(found, next_part(r)) && is_stored(out.at, out.length, left);
+}
+
+static int walk(record *r)
+{
+    word_slice directory = next_words(r);
+    word_slice words = next_words(r);
+    byte_slice bytes = next_bytes(r);
+    byte_slice fact_text = next_bytes(r);
+    word_slice tree = next_words(r);
+    byte_slice text = next_bytes(r);
+    word_slice facts = next_words(r);
+    word_slice parses = next_words(r);
+    byte_slice parse_text = next_bytes(r);
+    uint32_t range_given = next_number(r);
+    size_t range_start = next_number(r);
+    size_t range_end = next_number(r);
+    byte_slice out = next_buffer(r);
+    part left = next_part(r);
+    ssr_job_answer found =
+        ssr_walk(directory.at, directory.length, words.at, words.length, bytes.at, bytes.length,
+                 fact_text.at, fact_text.length, tree.at, tree.length, text.at, text.length,
+                 facts.at, facts.length, parses.at, parses.length, parse_text.at, parse_text.length,
+                 range_given, range_start, range_end, out.at, out.length);
+    return is_edited(found, next_part(r)) && is_stored(out.at, out.length, left);
 }
 
 /* The sample. */
@@ -439,7 +469,7 @@ typedef struct operation {
     unsigned long different;
 } operation;
 
-#define OPERATIONS 10
+#define OPERATIONS 11
 
 /* By their numbers in a record; 0 is for those that are not known. */
 static operation operations[OPERATIONS] = {
@@ -453,6 +483,7 @@ static operation operations[OPERATIONS] = {
     {"resolve", resolve, 0, 0},
     {"match nodes", match_node, 0, 0},
     {"jobs", job, 0, 0},
+    {"walks", walk, 0, 0},
 };
 
 /* Says what is wrong with a record, counted from 0. Answers 0, since the record is not as expected. */

@@ -40,7 +40,7 @@ numberOf MalformedFacts = 21  -- facts malformed, over 16,383, or one repeated
 numberOf UnresolvedPath = 22  -- a path that must resolve has no fact
 -- Matching one node
 numberOf NoSuchNodeOrRule = 23  -- no such node or rule, or a range whose start is after its end
--- A job
+-- A job and the walk
 numberOf TooManyRulesOrCandidates = 24  -- over 16 rules or 1,024 candidates
 numberOf NoSuchCandidate = 25  -- a candidate without such node or rule, or 23's range
 numberOf RepeatedCandidate = 26  -- a pair twice

@@ -457,7 +457,7 @@ fn job_few<'a>(
     range: Restriction,
     out: &mut [u8],
 ) -> Edited
-    requires { ⌜ (length (now words) ≤ 3072) × (length (now facts) ≤ 4096) × (length (now out) ≤ 1048576) ⌝ }
+    requires { ⌜ (length (now words) ≤ 3072) × (length (now facts) ≤ 8192) × (length (now out) ≤ 1048576) ⌝ }
     ensures { λ r. ⌜ r ≡ jobAnswer (jobOf (now (directory .entry)) (now (words .entry)) (now (bytes .entry)) (now («fact_text» .entry))
         (fileOf (now (tree .entry)) (now (text .entry)) (now (facts .entry))) (now (parses .entry)) (now («parse_text» .entry))
         (now (candidates .entry)) range) (length (now (out .entry))) ⌝ }
@@ -466,11 +466,11 @@ fn job_few<'a>(
         (now (candidates .entry)) range) (now (out .entry)) ⌝ }
 {
     let mut index = [0u64; 1024];
-    let mut spare = [0u64; 1024];
-    let mut paths = [0u32; 1024];
-    let mut calls = [0u32; 1024];
+    let mut spare = [0u64; 2048];
+    let mut paths = [0u32; 2048];
+    let mut calls = [0u32; 2048];
     let mut marks = [0u32; 4096];
-    let mut file_index = [0u64; 1024];
+    let mut file_index = [0u64; 2048];
     let mut keys = [0u64; 1024];
     let mut more = [0u64; 1024];
     job_in(
@@ -520,7 +520,7 @@ fn job_used<'a>(
         (fileOf (now (tree .entry)) (now (text .entry)) (now (facts .entry))) (now (parses .entry)) (now («parse_text» .entry))
         (now (candidates .entry)) range) (now (out .entry)) ⌝ }
 {
-    if (words.len() <= 3072) & (facts.len() <= 4096) {
+    if (words.len() <= 3072) & (facts.len() <= 8192) {
         return job_few(
             directory,
             words,

@@ -29,7 +29,7 @@ ghost use Rattle.job_checks.specs.Checks.{jobOf, askedOf, anyWithoutTemp
 ghost use Rattle.job_checks.specs.Checked.{Checked};
 
 // 1 to 22, and the index of the file's facts where nothing is refused.
-fn check_and_resolve(
+pub fn check_and_resolve(
     directory: &[u32],
     words: &[u32],
     bytes: &[u8],
@@ -143,7 +143,7 @@ fn check_and_order(
 }
 
 // Whether every rule has a template. A rule has none where its pair has none, and every pair that passed 17 has a rule.
-fn have_templates(directory: &[u32]) -> bool
+pub fn have_templates(directory: &[u32]) -> bool
     ensures { λ r. ⌜ ((m : ℕ) (words bytes : List ℕ) → stageOutcome Forms m (pairs (now (directory .entry)) words bytes) ≡ Accepted → r ≡ not (anyWithoutTemplate (rules (pairs (now (directory .entry)) words bytes)))) ⌝ }
 {
     let mut row = directory;

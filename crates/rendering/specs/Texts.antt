@@ -1,4 +1,4 @@
--- `render_replace` of docs/src/src/replacing.rs, as document 01 lays it: "Every byte is laid where it will stand, an edit's three words before
+-- `render_replace` of docs/src/src/replacing.rs, as document 01 lays it: "Every byte is laid where it will stand: an edit's three words before
 -- its text, a captured text with parenthesis, prefix and nested replacements in turn. A second rendering begins where the first did."
 -- Assumes nothing.
 use Prim.Native.Nat.{ℕ, zero, suc, _-_}

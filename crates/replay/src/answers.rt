@@ -154,7 +154,7 @@ pub fn is_resolved(answer: ResolvedElement, expected: &[u8]) -> bool {
     is_words(&words, expected)
 }
 
-// Whether the answer of a job has the expected bytes, and then 0.
+// Whether the answer of a job or a walk has the expected bytes, and then 0.
 pub fn is_edited(answer: EditedNumbers, expected: &[u8]) -> bool {
     let words = [
         answer.refusal,

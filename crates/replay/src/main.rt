@@ -9,6 +9,7 @@ mod checks; // checks.rt: trees with their facts
 mod rule_checks; // rule_checks.rt: the operations on rules
 mod match_checks; // match_checks.rt: the operation that matches
 mod job_checks; // job_checks.rt: the operation that writes an edit list
+mod walk_checks; // walk_checks.rt: the operation that walks a file
 
 ghost use Prim.Native.Nat.{_<_};
 
@@ -81,15 +82,16 @@ fn is_right(operation: usize, parts: &[u8]) -> bool {
         7 => rule_checks::resolve(parts),
         8 => match_checks::match_node(parts),
         9 => job_checks::job(parts),
+        10 => walk_checks::walk(parts),
         _ => false,
     }
 }
 
 // Where an operation is counted: at twice its number if its answer is equal, one behind that if not. 1 is for no known operation.
 fn place(operation: usize, right: bool) -> usize
-    ensures { λ r. ⌜ r < 20 ⌝ }
+    ensures { λ r. ⌜ r < 22 ⌝ }
 {
-    if 10 <= operation {
+    if 11 <= operation {
         return 1;
     }
     if right {
@@ -98,14 +100,14 @@ fn place(operation: usize, right: bool) -> usize
     2 * operation + 1
 }
 
-fn count(counts: &mut [u64; 20], at: usize)
-    requires { ⌜ at < 20 ⌝ }
+fn count(counts: &mut [u64; 22], at: usize)
+    requires { ⌜ at < 22 ⌝ }
 {
     counts[at] = std::num::wrapping_add_u64(counts[at], 1);
 }
 
 // Reads a record and counts its answer; false at the end of the sample.
-fn replay(counts: &mut [u64; 20]) -> bool {
+fn replay(counts: &mut [u64; 22]) -> bool {
     let mut body = io::large_buffer();
     let size = records::read(&mut body);
     if size == 0 {
@@ -119,7 +121,7 @@ fn replay(counts: &mut [u64; 20]) -> bool {
 }
 
 // A proved loop has to end, and nothing says that the sample does: no run uses these turns up.
-fn replay_all(counts: &mut [u64; 20]) {
+fn replay_all(counts: &mut [u64; 22]) {
     let mut turns = u64::MAX;
     while turns > 0 && replay(counts) {
         turns -= 1;
@@ -136,7 +138,7 @@ fn print(name: &[u8], equal: u64, different: u64) {
 }
 
 fn main() {
-    let mut counts = [0u64; 20];
+    let mut counts = [0u64; 22];
     replay_all(&mut counts);
     print(b"read tokens", counts[2], counts[3]);
     print(b"check pairs", counts[4], counts[5]);
@@ -147,6 +149,7 @@ fn main() {
     print(b"resolve", counts[14], counts[15]);
     print(b"match nodes", counts[16], counts[17]);
     print(b"jobs", counts[18], counts[19]);
+    print(b"walks", counts[20], counts[21]);
     if 0 < counts[1] {
         print(b"unknown operations", counts[0], counts[1]);
     }

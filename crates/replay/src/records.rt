@@ -1,7 +1,7 @@
 // The stored sample, on standard input. A number is four bytes, the lowest first. A record is
 //   the number of bytes that follow,
 //   the number of its operation, in document 01's order: 1 reading tokens, 2 checking a pair, 3 writing raw code, 4 checking the
-//   file's tree with its facts, 5 checking a rule's, 6 building rules, 7 resolving, 8 matching one node, 9 a job,
+//   file's tree with its facts, 5 checking a rule's, 6 building rules, 7 resolving, 8 matching one node, 9 a job, 10 a walk,
 //   and its parts, for each the number of its bytes and then these.
 // The parts are what the operation is handed, in the order of its parameters, each word as a number and of a buffer its length, then
 // the buffer after the call, if there is one, and the expected answer: the fields of the exported struct in their order. Both are

@@ -1,7 +1,7 @@
 // The operation that matches.
+use crate::ranges;
 use answers::Case;
 use captures::Binding;
-use get_match::Restriction;
 use match_node::matching::Question;
 use match_node::operation;
 ghost use mathlib.Core.Path.{_≡_};
@@ -123,11 +123,7 @@ pub extern "C" fn ssr_match_node(
     ensures { λ r. ⌜ r ≡ nodeMatched (matchedNode (rulesOf (now (directory .entry)) (now (words .entry)) (now (bytes .entry)) (length (now («fact_text» .entry)))) (fileOf (now (tree .entry)) (now (text .entry)) (now (facts .entry))) rule (restriction «range_given» «range_start» «range_end») node (usedOf (length (now (out .entry))))) ⌝ }
     ensures { λ _. ⌜ now (out .exit) ≡ bufferAfter (rulesOf (now (directory .entry)) (now (words .entry)) (now (bytes .entry)) (length (now («fact_text» .entry)))) (fileOf (now (tree .entry)) (now (text .entry)) (now (facts .entry))) rule (restriction «range_given» «range_start» «range_end») node (now (out .entry)) ⌝ }
 {
-    let range = Restriction {
-        given: range_given != 0,
-        start: range_start,
-        end: range_end,
-    };
+    let range = ranges::restriction_of(range_given, range_start, range_end);
     let question = Question { rule, node, range };
     let bytes_of_facts = fact_text.len();
     let m = operation::match_node(

@@ -30,7 +30,7 @@ pub fn check(operation: &Operation) -> Result<(), u32> {
             if wrong || is_backward(*range) { Err(23) } else { Ok(()) }
         }
         Operation::Job(job) => check_job(job),
-        Operation::Walk(job) => check_walk(job),
+        Operation::Walk(job) => checked_walk(job).map(drop),
     }
 }
 
@@ -104,7 +104,8 @@ pub fn checked_candidates(job: &Job) -> Result<Vec<Rule>, u32> {
     Ok(rules)
 }
 
-fn check_walk(job: &Job) -> Result<(), u32> {
+/// The rules left of a walk that nothing refuses before its nodes are tried: 1 to 25 and 27.
+pub fn checked_walk(job: &Job) -> Result<Vec<Rule>, u32> {
     let rules = checked_rules(&job.rules, Some(&job.file))?;
     if rules.len() > 16 {
         return Err(24);
@@ -112,7 +113,8 @@ fn check_walk(job: &Job) -> Result<(), u32> {
     if is_backward(job.range) {
         return Err(25);
     }
-    check_templates(&rules)
+    check_templates(&rules)?;
+    Ok(rules)
 }
 
 fn check_templates(rules: &[Rule]) -> Result<(), u32> {

@@ -1,7 +1,7 @@
-//! A whole job by the checker alone: its candidates matched, its matches nested, its list written.
+//! A whole job or walk by the checker alone: its candidates matched, its matches nested, its list written.
 
 use crate::answer::{padded, refused};
-use crate::check::{checked_candidates, checked_file};
+use crate::check::{checked_candidates, checked_file, checked_walk};
 use crate::facts::Facts;
 use crate::job_ways::{JobWay, JobWays};
 use crate::matching::match_node;
@@ -10,13 +10,15 @@ use crate::parses::read_parses;
 use crate::rules::Rule;
 use crate::tree::Tree;
 use crate::write::{Event, Source, is_asked, write_list};
-use input::{Answer, Job, Kept, Matched, Outcome, Parses, used};
+use input::{Answer, Job, Kept, Matched, Outcome, Parses, Task, used};
 use std::collections::BTreeMap;
 
 const IDENT: u32 = 1;
 const DEFINITION: u32 = 2;
+/// The most matches of a walk.
+pub const MATCHES: usize = 1_024;
 
-/// A job that nothing refuses before its parses (28) are looked at, with its matches nested.
+/// A job or walk that nothing refuses before its parses (28) are looked at, with its matches nested.
 pub struct WholeJob {
     rules: Vec<Rule>,
     file: (Tree, Facts),
@@ -54,14 +56,19 @@ impl Laid {
 
 impl WholeJob {
     /// Checks, matches and nests; 1 to 27.
-    pub fn new(job: &Job) -> Result<WholeJob, u32> {
-        let rules = checked_candidates(job)?;
+    pub fn new(task: Task, job: &Job) -> Result<WholeJob, u32> {
+        let rules = match task {
+            Task::Job => checked_candidates(job)?,
+            Task::Walk => checked_walk(job)?,
+        };
         let file = checked_file(&job.file)?;
-        let range = job.range.map(|(start, end)| (start as usize, end as usize));
-        let candidates = job.candidates.chunks_exact(2).map(|pair| (pair[0], pair[1]));
-        let found = candidates
-            .filter_map(|(node, rule)| matched(&rules[rule as usize], &file, (node, rule), range));
-        let matches: Vec<Matched> = found.collect();
+        let matches = match task {
+            Task::Job => {
+                let candidates = job.candidates.chunks_exact(2).map(|pair| (pair[0], pair[1]));
+                found(&rules, &file, candidates, job.range).collect()
+            }
+            Task::Walk => walked(&rules, &file, job.range)?,
+        };
         let (kept, mut ways) = nest(&file.0, matches.clone());
         ways.insert_if(has_two_modules(&kept), JobWay::TwoModules);
         let fact_text = job.rules.fact_text.clone();
@@ -117,6 +124,31 @@ fn uses(rule: &Rule, slot: usize) -> u64 {
         tree.is_token(token, IDENT) && rule.placeholder(tree.text_of(token)) == Some(slot)
     };
     tree.tokens_below(0).filter(is_use).count() as u64
+}
+
+/// The matches among every node with every rule; 24 where they are too many.
+fn walked(
+    rules: &[Rule],
+    file: &(Tree, Facts),
+    range: Option<(u32, u32)>,
+) -> Result<Vec<Matched>, u32> {
+    let nodes = (0..).zip(&file.0.elements).filter(|(_, element)| element.node);
+    let candidates =
+        nodes.flat_map(|(node, _)| (0..rules.len() as u32).map(move |rule| (node, rule)));
+    let matches: Vec<Matched> = found(rules, file, candidates, range).take(MATCHES + 1).collect();
+    if matches.len() > MATCHES { Err(24) } else { Ok(matches) }
+}
+
+/// The candidates that match.
+fn found(
+    rules: &[Rule],
+    file: &(Tree, Facts),
+    candidates: impl Iterator<Item = (u32, u32)>,
+    range: Option<(u32, u32)>,
+) -> impl Iterator<Item = Matched> {
+    let range = range.map(|(start, end)| (start as usize, end as usize));
+    candidates
+        .filter_map(move |(node, rule)| matched(&rules[rule as usize], file, (node, rule), range))
 }
 
 fn matched(

@@ -22,9 +22,11 @@ mod tree;
 mod write;
 
 pub use answer::{answer, refused};
-pub use check::{built_rules, check, check_parses, check_tree, checked_file, checked_rules};
+pub use check::{
+    built_rules, check, check_parses, check_tree, checked_file, checked_rules, checked_walk,
+};
 pub use facts::{Facts, Place};
-pub use job::{Laid, WholeJob, Written};
+pub use job::{Laid, MATCHES, WholeJob, Written};
 pub use job_ways::{JOB_WAYS, JobWay, JobWays};
 pub use matching::{Attempt, Found, Notes, WAYS, Way, Ways, match_node};
 pub use parses::{Parse, read_parses};

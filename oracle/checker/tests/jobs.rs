@@ -5,7 +5,7 @@ mod common;
 use checker::{Laid, WholeJob};
 use common::*;
 use input::build::{Syntax, add_parse, fact, node, token};
-use input::{Job, Pair, Parses};
+use input::{Job, Pair, Parses, Task};
 
 /// A kind that is never parsed.
 const PLAIN: u32 = 2050;
@@ -44,7 +44,7 @@ fn job(pairs: &[Pair], root: &Syntax, candidates: &[[u32; 2]]) -> Job {
 
 /// The replacements of a job's list, one behind the other.
 fn replaced(job: &Job) -> String {
-    let whole = WholeJob::new(job).expect("a job that is not refused");
+    let whole = WholeJob::new(Task::Job, job).expect("a job that is not refused");
     let Laid::List(list) = whole.write(&Parses::default(), 4096).laid else {
         panic!("no list");
     };
@@ -96,7 +96,7 @@ fn a_match_that_nothing_holds_is_dropped() {
     let all = [[0, 0], [0, 1], [2, 0], [2, 1], [4, 2]];
     let job = job(&pairs, &code, &all);
     assert_eq!(replaced(&job), "++Y");
-    let whole = WholeJob::new(&job).expect("a job that is not refused");
+    let whole = WholeJob::new(Task::Job, &job).expect("a job that is not refused");
     assert_eq!((whole.matches.len(), whole.kept.len()), (5, 1));
 }
 
@@ -107,7 +107,7 @@ fn renderings_of_the_crate_double_with_each_level() {
     let pairs = [rule(("($a)", around(place("a"))), ("-$a", template))];
     let code = (0..4).fold(word("x"), |inner, _| around(inner));
     let mut job = job(&pairs, &code, &[[0, 0], [2, 0], [4, 0], [6, 0]]);
-    let whole = WholeJob::new(&job).expect("a job that is not refused");
+    let whole = WholeJob::new(Task::Job, &job).expect("a job that is not refused");
     assert_eq!(whole.renderings(), 2 + 4 + 8 + 16);
     let asked = |whole: &WholeJob, parses: &Parses| match whole.write(parses, 99).laid {
         Laid::Asked(kind, text) => (kind, String::from_utf8(text).expect("UTF-8")),
@@ -116,4 +116,33 @@ fn renderings_of_the_crate_double_with_each_level() {
     assert_eq!(asked(&whole, &job.parses), (69, "-x".to_owned()));
     add_parse(&mut job.parses, 69, b"-x", &[(0, 2)]);
     assert_eq!(asked(&whole, &job.parses), (69, "--(x)".to_owned()));
+}
+
+#[test]
+fn a_walk_has_every_node_with_every_rule() {
+    let minus = |inner| node(68, [mark("-"), inner]);
+    let pattern = minus(place("a"));
+    let outer = rule(("-$a", pattern), ("+$a", node(PLAIN, [mark("+"), place("a")])));
+    let code = node(2048, [minus(minus(word("x"))), word("x"), node(66, [])]);
+    let walk = job(&[outer, constant(word("x"), "Y")], &code, &[]);
+    let whole = WholeJob::new(Task::Walk, &walk).expect("a walk that is not refused");
+    let found: Vec<(u32, u32)> = whole.matches.iter().map(|m| (m.node, m.rule)).collect();
+    assert_eq!(found, [(1, 0), (3, 0), (5, 1), (7, 1)]);
+    let listed = found.iter().map(|&(node, rule)| [node, rule]).collect::<Vec<_>>().concat();
+    let same = Job { candidates: listed, ..walk };
+    let whole_job = WholeJob::new(Task::Job, &same).expect("a job that is not refused");
+    assert_eq!((whole.matches, whole.kept), (whole_job.matches, whole_job.kept));
+    assert_eq!(replaced(&same), "++YY");
+}
+
+#[test]
+fn a_walk_counts_its_matches_before_they_are_nested() {
+    let pairs = vec![angles(); 16];
+    let nodes = |count: usize| node(2048, vec![node(66, []); count - 1]);
+    let matches = |count| {
+        let walk = job(&pairs, &nodes(count), &[]);
+        WholeJob::new(Task::Walk, &walk).map(|whole| (whole.matches.len(), whole.kept.len()))
+    };
+    assert_eq!(matches(64), Ok((1024, 1)));
+    assert_eq!(matches(65), Err(24));
 }

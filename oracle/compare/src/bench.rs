@@ -8,7 +8,7 @@ mod rules;
 mod table;
 mod timing;
 mod trees;
-mod tries;
+mod walks;
 mod whole;
 
 use corpus::case::Case;
@@ -34,11 +34,12 @@ pub fn run() -> Result<bool, String> {
     })?;
     let is_alike = |given: &&Given| of_rules(&given.case.pairs).is_empty();
     let alike: Vec<&Given> = cases.iter().filter(is_alike).collect();
+    let all_jobs = jobs::all_asked(&alike);
     // All are measured, though one be different.
     let equal = [
-        tries::run(&alike),
+        walks::run(&all_jobs),
         whole::run(&alike),
-        jobs::run(&alike),
+        jobs::run(all_jobs),
         lists::run(&cases),
         trees::run(&cases),
         rules::run(),

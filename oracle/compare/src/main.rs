@@ -24,7 +24,7 @@ use corpus::case::{Case, read_case};
 use corpus::json;
 use generator::Class;
 use generator::arguments::number;
-use input::{Operation, Pair, TokenList, used};
+use input::{Operation, Pair, Task, TokenList, used};
 
 const USAGE: &str = "usage: compare corpus < CASES
        compare generated SEED COUNT
@@ -42,6 +42,9 @@ const USAGE: &str = "usage: compare corpus < CASES
        compare jobs generated SEED COUNT
        compare jobs buffers SEED COUNT
        compare jobs limits
+       compare walk corpus < CASES
+       compare walk generated SEED COUNT
+       compare walk limits
        compare bench < CASES
        compare sample SEED COUNT";
 
@@ -70,10 +73,17 @@ fn run(arguments: &[&str]) -> Result<bool, String> {
             Ok(matching::damaged(number(seed)?, number(count)?))
         }
         ["matching", "limits"] => Ok(matching::limits()),
-        ["jobs", "corpus"] => jobs::corpus(),
-        ["jobs", "generated", seed, count] => Ok(jobs::generated(number(seed)?, number(count)?)),
+        ["jobs", "corpus"] => jobs::corpus(Task::Job),
+        ["jobs", "generated", seed, count] => {
+            Ok(jobs::generated(Task::Job, number(seed)?, number(count)?))
+        }
         ["jobs", "buffers", seed, count] => Ok(jobs::buffers(number(seed)?, number(count)?)),
-        ["jobs", "limits"] => Ok(jobs::limits()),
+        ["jobs", "limits"] => Ok(jobs::limits(Task::Job)),
+        ["walk", "corpus"] => jobs::corpus(Task::Walk),
+        ["walk", "generated", seed, count] => {
+            Ok(jobs::generated(Task::Walk, number(seed)?, number(count)?))
+        }
+        ["walk", "limits"] => Ok(jobs::limits(Task::Walk)),
         ["bench"] => bench::run(),
         ["sample", seed, count] => {
             let sample = sample::make(number(seed)?, number(count)? as usize)?;

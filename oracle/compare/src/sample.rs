@@ -4,7 +4,7 @@ use std::collections::BTreeMap;
 
 use generator::{Class, case};
 use input::build::token_list;
-use input::{Answer, Operation, TokenList};
+use input::{Answer, Operation, Task, TokenList};
 use judge::judge;
 
 use crate::comparison::with_lists;
@@ -47,7 +47,8 @@ pub fn make(seed: u64, count: usize) -> Result<Vec<u8>, String> {
     sample.extend(tree_sample::make(seed));
     sample.extend(rules_sample::make(seed, count)?);
     sample.extend(matching_sample::make(seed, count)?);
-    sample.extend(jobs_sample::make(seed, count)?);
+    sample.extend(jobs_sample::make(Task::Job, seed, count)?);
+    sample.extend(jobs_sample::make(Task::Walk, seed, count)?);
     Ok(sample)
 }
 

@@ -1,5 +1,6 @@
 //! The library on a thread with a small stack.
 
+use std::hint::black_box;
 use std::panic::resume_unwind;
 use std::sync::mpsc::{Receiver, Sender, channel};
 use std::thread;
@@ -18,8 +19,26 @@ pub const OF_RESOLVING: usize = TABLES + CHECK + 64 * 1024;
 /// of 128 levels.
 pub const OF_MATCHING: usize = 2 * 1024 * 1024;
 
-/// For a job: the same.
+/// For a job or a walk: the same.
 pub const OF_JOBS: usize = 2 * 1024 * 1024;
+
+/// How many bytes of its stack this thread has touched so far, in whole pages, as Linux tells; 0 where it does
+/// not. A thread's own data lies there too.
+pub fn touched() -> usize {
+    let local = black_box(0u8);
+    let here = std::ptr::from_ref(&local).addr();
+    let maps = std::fs::read_to_string("/proc/self/smaps").unwrap_or_default();
+    let range = |line: &str| {
+        let (start, end) = line.split_once(' ')?.0.split_once('-')?;
+        let address = |digits| usize::from_str_radix(digits, 16).ok();
+        Some(address(start)?..address(end)?)
+    };
+    let ours = |line: &&str| range(line).is_some_and(|range| range.contains(&here));
+    let resident =
+        maps.lines().skip_while(|line| !ours(line)).find(|line| line.starts_with("Rss:"));
+    let kilobytes = resident.and_then(|line| line.split_whitespace().nth(1)?.parse::<usize>().ok());
+    kilobytes.unwrap_or(0) * 1_024
+}
 
 /// Does some work on a stack of so many bytes; one that is used up ends the program.
 pub fn on_stack<T: Send>(bytes: usize, work: impl FnOnce() -> T + Send) -> T {
@@ -57,6 +76,16 @@ impl<Q: Send + 'static, A: Send + 'static> Worker<Q, A> {
 #[cfg(test)]
 mod tests {
     use super::*;
+
+    #[test]
+    fn what_was_touched_of_a_stack_is_told() {
+        let small = on_stack(OF_JOBS, touched);
+        let large = on_stack(OF_JOBS, || {
+            black_box([1u8; 1 << 20]);
+            touched()
+        });
+        assert!(small < 1 << 18 && large > 1 << 20 && large < OF_JOBS, "{small} {large}");
+    }
 
     #[test]
     fn a_worker_answers_in_turn() {

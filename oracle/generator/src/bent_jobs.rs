@@ -1,22 +1,23 @@
-//! Damaged copies of jobs: candidates, ranges, parses, templates and buffers in the ways that are named
-//! here, rules and file in those that `bent_matches` names.
+//! Damaged copies of jobs and walks: candidates, ranges, parses, templates and buffers in the ways that are
+//! named here, rules and file in those that `bent_matches` names.
 
 use crate::bent_matches;
 use crate::damage::{bytes, words};
 use crate::jobs::{nodes, rule_count};
-use crate::limits::{overgrow_candidates, overgrow_rules};
+use crate::limits::{overgrow_candidates, overgrow_matches, overgrow_rules};
 use crate::rng::Rng;
 use input::build::{add_parse, element_word};
 use input::pairs::{decode, encode};
 use input::words::{END, PARSE, START, low16, value, word};
-use input::{Job, Pair, Parses, Side};
+use input::{Job, Pair, Parses, Side, Task};
 
 /// Sets these copies apart from others of the same seed.
 const SALT: u64 = 0xbe27_10b5;
 
-type Bend = fn(&mut Rng, &mut Job);
+pub type Bend = fn(&mut Rng, &mut Job);
 
-pub const BENDS: [(&str, Bend); 25] = [
+/// The candidates, which a walk does not have.
+const OF_JOBS: [(&str, Bend); 8] = [
     ("candidates in another order", |rng, job| shuffle(rng, &mut job.candidates)),
     ("candidates left out", |rng, job| {
         let left = rng.below(job.candidates.len() / 2 + 1);
@@ -41,6 +42,11 @@ pub const BENDS: [(&str, Bend); 25] = [
     ("a lone last word", |_, job| job.candidates.push(0)),
     ("a candidate's word", |rng, job| words(rng, &mut job.candidates, 2)),
     ("over 1,024 candidates", |_, job| overgrow_candidates(job)),
+];
+
+const OF_WALKS: [(&str, Bend); 1] = [("over 1,024 matches", |_, job| overgrow_matches(job))];
+
+const OF_BOTH: [(&str, Bend); 17] = [
     ("over 16 rules", |_, job| overgrow_rules(job)),
     ("a backward range", |rng, job| job.range = Some((1 + rng.below(9) as u32, 0))),
     ("a range", |rng, job| {
@@ -93,15 +99,23 @@ pub const BENDS: [(&str, Bend); 25] = [
     }),
 ];
 
-/// Damages a copy of a job, in some cases in two or three ways: the names of what was done.
-pub fn bend_copy(seed: u64, index: u64, job: &mut Job) -> Vec<&'static str> {
+/// The ways in which a job or a walk is damaged.
+pub fn bends(task: Task) -> Vec<(&'static str, Bend)> {
+    match task {
+        Task::Job => [&OF_JOBS[..], &OF_BOTH].concat(),
+        Task::Walk => [&OF_WALKS[..], &OF_BOTH].concat(),
+    }
+}
+
+/// Damages a copy, in some cases in two or three ways: the names of what was done.
+pub fn bend_copy(task: Task, seed: u64, index: u64, job: &mut Job) -> Vec<&'static str> {
     let rng = &mut Rng::new(&[SALT, seed, index]);
-    let mut names = Vec::new();
+    let (bends, mut names) = (bends(task), Vec::new());
     for _ in 0..*rng.pick(&[1, 1, 1, 1, 2, 3]) {
         // Rules and file have many ways of their own.
-        let last = BENDS.len() - 1;
+        let last = bends.len() - 1;
         let place = if rng.chance(12) { last } else { rng.below(last) };
-        let (name, bend) = BENDS[place];
+        let (name, bend) = bends[place];
         bend(rng, job);
         names.push(name);
     }

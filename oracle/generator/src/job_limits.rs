@@ -17,8 +17,8 @@ const ROOM: usize = 1_048_576;
 const LARGE: usize = ROOM + 7;
 /// The most candidates, the most rules, and nodes for which all rules are as many.
 const CANDIDATES: usize = 1_024;
-const RULES: usize = 16;
-const LINE: usize = CANDIDATES / RULES;
+pub(crate) const RULES: usize = 16;
+pub(crate) const LINE: usize = CANDIDATES / RULES;
 /// The greatest depth of a node above a token.
 const DEPTH: usize = 127;
 /// The last number of a sum.
@@ -28,7 +28,7 @@ const WITHIN: Duration = Duration::from_secs(1);
 const WITHIN_LARGE: Duration = Duration::from_secs(5);
 
 /// The kind of a template that is never parsed, and of one that is.
-const PLAIN: u32 = PATH_TYPE;
+pub(crate) const PLAIN: u32 = PATH_TYPE;
 const PARSED: u32 = REF_EXPR;
 
 pub struct JobLimit {
@@ -59,23 +59,23 @@ pub fn too_many_rules() -> Job {
     job(&vec![pair(&number(1), &number(2)); RULES + 1], &number(1), Vec::new())
 }
 
-fn limit(name: &str, job: Job, answer: Answer) -> JobLimit {
+pub(crate) fn limit(name: &str, job: Job, answer: Answer) -> JobLimit {
     JobLimit { name: name.to_owned(), job, within: WITHIN, answer: Some(answer) }
 }
 
-fn large(name: &str, job: Job, answer: Answer) -> JobLimit {
+pub(crate) fn large(name: &str, job: Job, answer: Answer) -> JobLimit {
     JobLimit { within: WITHIN_LARGE, ..limit(name, job, answer) }
 }
 
 /// A job over code whose nodes are all in module 1.
-fn job(pairs: &[Pair], root: &Syntax, candidates: Vec<u32>) -> Job {
+pub(crate) fn job(pairs: &[Pair], root: &Syntax, candidates: Vec<u32>) -> Job {
     let nodes = root.elements().into_iter().enumerate().filter(|(_, e)| e.is_node());
     let facts = nodes.flat_map(|(i, _)| fact(6, i, [1, 0, 0])).collect();
     let file = File { facts, ..plain_file(root) };
     Job { rules: encode(pairs, b""), file, candidates, buffer: LARGE, ..Job::default() }
 }
 
-fn pair(pattern: &Syntax, template: &Syntax) -> Pair {
+pub(crate) fn pair(pattern: &Syntax, template: &Syntax) -> Pair {
     Pair { pattern: side(pattern), has_template: true, template: side(template) }
 }
 
@@ -101,11 +101,11 @@ fn placeholder(name: &str) -> Syntax {
     node(PATH_EXPR, [stand_in(name)])
 }
 
-fn a() -> Syntax {
+pub(crate) fn a() -> Syntax {
     placeholder("a")
 }
 
-fn number(number: usize) -> Syntax {
+pub(crate) fn number(number: usize) -> Syntax {
     node(LITERAL, [token(NUMBER, number.to_string())])
 }
 
@@ -190,12 +190,12 @@ fn sum_states() -> (Vec<(Parses, Answer)>, usize) {
 }
 
 /// A line of nodes around an element.
-fn line(nodes: usize, inner: Syntax) -> Syntax {
+pub(crate) fn line(nodes: usize, inner: Syntax) -> Syntax {
     (0..nodes).fold(inner, |inner, _| node(EXPR_STMT, [inner]))
 }
 
 /// `<$a>` of a kind.
-fn angles(kind: u32) -> Syntax {
+pub(crate) fn angles(kind: u32) -> Syntax {
     node(kind, [mark("<"), a(), mark(">")])
 }
 
@@ -513,7 +513,7 @@ fn matched() -> Vec<JobLimit> {
         for buffer in found.buffers {
             let (rules, file) = (rules.clone(), file.clone());
             let job = Job { rules, file, candidates: vec![0, 0], buffer, ..Job::default() };
-            let name = format!("a job: {}, a buffer of {buffer}", found.name);
+            let name = format!("{}, a buffer of {buffer}", found.name);
             all.push(JobLimit { name, job, within: WITHIN, answer: None });
         }
     }

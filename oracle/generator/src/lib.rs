@@ -11,6 +11,7 @@ mod derive;
 mod facts;
 mod grammar;
 pub mod growing_rules;
+pub mod growing_walks;
 pub mod job_limits;
 mod jobs;
 mod kinds;
@@ -33,6 +34,7 @@ mod tiny;
 mod tokens;
 pub mod tree_limits;
 pub mod trees;
+pub mod walk_limits;
 mod world;
 
 pub use jobs::{awkward_buffers, nodes, rule_count};

@@ -309,6 +309,16 @@ pub fn overgrow_rules(job: &mut Job) {
     }
 }
 
+/// More matches than a walk may have, if the rules can be cut: one more of them, and a file for it.
+pub fn overgrow_matches(job: &mut Job) {
+    let fact_text = job.rules.fact_text.clone();
+    if let Some(mut pairs) = decode(&job.rules) {
+        pairs.push(one_to_two());
+        job.rules = encode(&pairs, &fact_text);
+        job.file = ones(1_025);
+    }
+}
+
 /// A file too deep, too large or with too many facts.
 pub fn overgrow_file(rng: &mut Rng, file: &mut File) {
     match rng.below(4) {

@@ -2,7 +2,7 @@
 
 use checker::{JOB_WAYS, JobWays, Laid, WholeJob, check};
 use generator::{add_made_up, bent_jobs, odd_jobs};
-use input::{Job, Operation};
+use input::{Job, Task};
 use std::collections::BTreeSet;
 use std::thread;
 
@@ -16,7 +16,7 @@ fn the_same_seed_gives_the_same_job() {
 
 /// The ways that a job goes until its list is written, or into a buffer that is too small for it.
 fn ways(mut job: Job) -> JobWays {
-    let Ok(whole) = WholeJob::new(&job) else { return JobWays::default() };
+    let Ok(whole) = WholeJob::new(Task::Job, &job) else { return JobWays::default() };
     let mut ways = JobWays::default();
     for _ in 0..40 {
         let written = whole.write(&job.parses, 4096);
@@ -51,13 +51,17 @@ fn jobs_go_every_way() {
 
 #[test]
 fn damaged_copies_meet_every_number_of_their_own() {
-    let (mut met, mut used) = (BTreeSet::new(), BTreeSet::new());
-    for index in 0..4_000 {
-        let mut job = odd_jobs::random(5, index / 4);
-        used.extend(bent_jobs::bend_copy(5, index, &mut job));
-        met.insert(check(&Operation::Job(job)).err().unwrap_or(0));
+    for (task, numbers) in
+        [(Task::Job, &[0, 24, 25, 26, 27, 28][..]), (Task::Walk, &[0, 24, 25, 27])]
+    {
+        let (mut met, mut used) = (BTreeSet::new(), BTreeSet::new());
+        for index in 0..4_000 {
+            let mut job = odd_jobs::random(5, index / 4);
+            used.extend(bent_jobs::bend_copy(task, 5, index, &mut job));
+            met.insert(check(&task.on(job)).err().unwrap_or(0));
+        }
+        assert_eq!(used.len(), bent_jobs::bends(task).len(), "{used:?}");
+        let missing = numbers.iter().find(|number| !met.contains(number));
+        assert_eq!(missing, None, "{met:?}");
     }
-    assert_eq!(used.len(), bent_jobs::BENDS.len(), "{used:?}");
-    let missing: Vec<u32> = (24..=28).chain([0]).filter(|number| !met.contains(number)).collect();
-    assert_eq!(missing, [], "{met:?}");
 }

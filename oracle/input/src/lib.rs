@@ -79,6 +79,25 @@ pub struct Job {
     pub buffer: usize,
 }
 
+/// What is done with a job as handed in.
+#[derive(Clone, Copy, Debug, Default, PartialEq, Eq)]
+pub enum Task {
+    /// The job over its candidate list.
+    #[default]
+    Job,
+    /// The whole-file walk; the job's candidates are not looked at.
+    Walk,
+}
+
+impl Task {
+    pub fn on(self, job: Job) -> Operation {
+        match self {
+            Task::Job => Operation::Job(job),
+            Task::Walk => Operation::Walk(job),
+        }
+    }
+}
+
 /// One of document 01's operations with all that it is handed.
 #[derive(Clone, Debug, PartialEq, Eq)]
 pub enum Operation {
@@ -101,9 +120,9 @@ pub enum Operation {
         range: Option<(u32, u32)>,
         buffer: usize,
     },
-    /// A job over its candidate list.
+    /// `Task::Job`.
     Job(Job),
-    /// The whole-file walk; the job's candidates are not looked at.
+    /// `Task::Walk`.
     Walk(Job),
 }
 

@@ -4,7 +4,7 @@
 use crate::predicates::{Difference, Shape, of_matches, of_rules};
 use crate::{Judgement, refusal};
 use input::edits;
-use input::{Answer, File, Job, Matched, Outcome, Pair, Rules, pairs, used, words};
+use input::{Answer, File, Job, Matched, Outcome, Pair, Rules, Task, pairs, used, words};
 use ssr::{Finder, MissingParse, NotFed, Rendering, Stopped, Workspace};
 
 /// How the crate's panic at an unbound placeholder of the template begins.
@@ -57,25 +57,20 @@ fn matched_node(file: &File, matched: &Matched, buffer: usize) -> Judgement {
     Judgement::of(Outcome { answer, buffer: text })
 }
 
-pub(crate) fn job(job: &Job, walk: bool) -> Judgement {
-    match judged(job, walk) {
+pub(crate) fn job(task: Task, job: &Job) -> Judgement {
+    match judged(task, job) {
         Ok(judgement) => uncertain(judgement),
         Err(stopped) => Judgement::stopped(stopped),
     }
 }
 
-fn judged(job: &Job, walk: bool) -> Result<Judgement, Stopped> {
+fn judged(task: Task, job: &Job) -> Result<Judgement, Stopped> {
     let pairs = pairs_of(&job.rules)?;
     let workspace = Workspace::new(&pairs, &job.rules.fact_text, Some(&job.file))?;
     let finder = Finder::new(&workspace)?;
-    let found = if walk {
-        finder.walk(job.range)?
-    } else {
-        let candidates = job.candidates.chunks_exact(2).map(|pair| (pair[0], pair[1]));
-        finder.find(candidates, job.range)?
-    };
+    let found = finder.find_all(task, job)?;
     let matched = finder.matched(&found);
-    if walk && matched.len() > 1024 {
+    if task == Task::Walk && matched.len() > checker::MATCHES {
         return Ok(refusal(24, job.buffer));
     }
     if let Err(number) = checker::check_parses(&job.parses) {

@@ -11,7 +11,7 @@ mod whole_matches;
 mod whole_rules;
 
 use checker::refused;
-use input::{Answer, Operation, Outcome};
+use input::{Answer, Operation, Outcome, Task};
 use predicates::Difference;
 use ssr::{NotFed, Stopped};
 pub use whole_jobs::{JudgedJob, ParsedJob, WholeJobs, used_by, whole_job};
@@ -60,8 +60,8 @@ pub fn judge(operation: &Operation) -> Judgement {
             Operation::MatchNode { rules, file, node, rule, range, buffer } => {
                 jobs::match_node(rules, file, *node, *rule, *range, *buffer)
             }
-            Operation::Job(job) => jobs::job(job, false),
-            Operation::Walk(job) => jobs::job(job, true),
+            Operation::Job(job) => jobs::job(Task::Job, job),
+            Operation::Walk(job) => jobs::job(Task::Walk, job),
             _ => Judgement::default().disagree("the checker gave no answer".into()),
         },
     }

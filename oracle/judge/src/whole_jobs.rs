@@ -1,13 +1,13 @@
-//! A whole job: the checker matches, nests and writes, and the crate's own source is asked for the same
-//! where it can be.
+//! A whole job or walk: the checker matches, nests and writes, and the crate's own source is asked for the
+//! same where it can be.
 
 use crate::jobs::difference;
 use crate::predicates::{Difference, Shape, of_matches, of_rules};
 use crate::whole_matches::{refusal_backing, stopped_backing};
 use crate::whole_rules::Backing;
-use checker::{JobWays, Laid, WholeJob, refused};
-use input::{Answer, Job, Kept, Matched, Outcome, Parses, pairs};
-use ssr::{Asked, Finder, MissingParse, Nested, NotFed, Rendered, Stopped, Workspace};
+use checker::{JobWays, Laid, MATCHES, WholeJob, checked_walk, refused};
+use input::{Answer, Job, Kept, Matched, Outcome, Parses, Task, pairs};
+use ssr::{Asked, Finder, Found, MissingParse, Nested, NotFed, Rendered, Stopped, Workspace};
 
 /// All the room that there may be.
 const ROOM: usize = 1_048_576;
@@ -23,12 +23,15 @@ pub struct JudgedJob {
     pub backing: Backing,
     /// The ways that the job went, none where it is refused before its parses.
     pub ways: JobWays,
+    /// The number is 24 for the matches of a walk, and not for its rules.
+    pub too_many_matches: bool,
 }
 
-/// A job without its parses and its buffer, made ready.
+/// A job or walk without its parses and its buffer, made ready.
 pub struct WholeJobs<'a> {
     job: &'a Job,
     checked: Result<WholeJob, u32>,
+    too_many_matches: bool,
     /// What the crate says to the refusal, or to matches and nesting.
     backing: Backing,
     covered: Vec<Difference>,
@@ -42,45 +45,76 @@ pub struct ParsedJob<'w> {
     backing: Backing,
 }
 
-/// Makes a job ready, and asks. Without `by_crate` the crate is not asked anything. Nested matches need
-/// `ssr::on_large_stack`.
-pub fn whole_job<T>(job: &Job, by_crate: bool, ask: impl FnOnce(&WholeJobs<'_>) -> T) -> T {
-    let checked = WholeJob::new(job);
+/// Makes a job or walk ready, and asks. Without `by_crate` the crate is not asked anything. Nested matches
+/// need `ssr::on_large_stack`.
+pub fn whole_job<T>(
+    task: Task,
+    job: &Job,
+    by_crate: bool,
+    ask: impl FnOnce(&WholeJobs<'_>) -> T,
+) -> T {
     // Of a directory that is refused (1) the crate is not asked.
     let pairs = pairs::decode(&job.rules).unwrap_or_default();
-    let covered = of_rules(&pairs);
-    let alone =
-        |checked, backing, covered| WholeJobs { job, checked, backing, covered, nested: None };
-    let whole = match &checked {
-        _ if !by_crate => return ask(&alone(checked, Backing::NotAsked, covered)),
-        Ok(whole) => whole,
-        Err(number) => {
-            let backing = refusal_backing(&pairs, &job.rules, *number, &covered);
-            return ask(&alone(checked, backing, covered));
-        }
-    };
+    let whole = by_checker(task, job, of_rules(&pairs));
+    if !by_crate {
+        return ask(&whole);
+    }
+    if let Err(number) = whole.checked
+        && !whole.too_many_matches
+    {
+        let backing = refusal_backing(&pairs, &job.rules, number, &whole.covered);
+        return ask(&WholeJobs { backing, ..whole });
+    }
     let workspace = match Workspace::new(&pairs, &job.rules.fact_text, Some(&job.file)) {
         Ok(workspace) => workspace,
-        Err(stopped) => return ask(&alone(checked, stopped_backing(stopped), covered)),
+        Err(what) => return ask(&WholeJobs { backing: stopped_backing(what), ..whole }),
     };
-    let finder = match Finder::new(&workspace) {
-        Ok(finder) => finder,
-        Err(stopped) => return ask(&alone(checked, stopped_backing(stopped), covered)),
-    };
-    let (backing, nested, covered) = match asked(job, whole, &finder) {
-        Ok((nested, matched, kept)) => {
-            let shape = Shape::new(&job.file.tree);
-            let covered = [covered, of_matches(&shape, &matched, &kept)].concat();
-            (compared(whole, &matched, &kept, &covered), Some(nested), covered)
-        }
-        Err(stopped) => (stopped_backing(stopped), None, covered),
+    match Finder::new(&workspace) {
+        Ok(finder) => ask(&with_crate(task, whole, finder)),
+        Err(what) => ask(&WholeJobs { backing: stopped_backing(what), ..whole }),
+    }
+}
+
+/// What the checker alone says.
+fn by_checker(task: Task, job: &Job, covered: Vec<Difference>) -> WholeJobs<'_> {
+    let checked = WholeJob::new(task, job);
+    let is_24 = task == Task::Walk && matches!(checked, Err(24));
+    let too_many_matches = is_24 && checked_walk(job).is_ok();
+    let backing = Backing::NotAsked;
+    WholeJobs { job, checked, too_many_matches, backing, covered, nested: None }
+}
+
+/// The same with what the crate says to matches and nesting.
+fn with_crate<'w>(task: Task, whole: WholeJobs<'w>, finder: Finder<'w>) -> WholeJobs<'w> {
+    let WholeJobs { job, checked, too_many_matches, covered, .. } = whole;
+    let (backing, nested, covered) = match &checked {
+        Err(_) => (count_backing(finder.walk(job.range), &covered), None, covered),
+        Ok(whole) => match asked(task, job, whole, &finder) {
+            Ok((nested, matched, kept)) => {
+                let shape = Shape::new(&job.file.tree);
+                let covered = [covered, of_matches(&shape, &matched, &kept)].concat();
+                (compared(whole, &matched, &kept, &covered), Some(nested), covered)
+            }
+            Err(stopped) => (stopped_backing(stopped), None, covered),
+        },
     };
     let nested = nested.map(|nested| (finder, nested));
-    ask(&WholeJobs { job, checked, backing, covered, nested })
+    WholeJobs { job, checked, too_many_matches, backing, covered, nested }
+}
+
+/// What the crate says to a walk with too many matches.
+fn count_backing(found: Result<Found, Stopped>, covered: &[Difference]) -> Backing {
+    match found {
+        Ok(found) if found.count() > MATCHES => Backing::Same,
+        Ok(_) if covered.contains(&Difference::TwoPathsOneCall) => Backing::Listed,
+        Ok(found) => Backing::Other(format!("the crate has {} matches", found.count())),
+        Err(stopped) => stopped_backing(stopped),
+    }
 }
 
 /// The crate's kept matches, as its own and in words, and all its matches.
 fn asked(
+    task: Task,
     job: &Job,
     whole: &WholeJob,
     finder: &Finder,
@@ -88,8 +122,7 @@ fn asked(
     if whole.renderings() > RENDERINGS {
         return Err(NotFed::TooLong.into());
     }
-    let candidates = job.candidates.chunks_exact(2).map(|pair| (pair[0], pair[1]));
-    let found = finder.find(candidates, job.range)?;
+    let found = finder.find_all(task, job)?;
     let matched = finder.matched(&found);
     let nested = finder.nest(found)?;
     let kept = finder.kept(&nested);
@@ -193,16 +226,17 @@ impl ParsedJob<'_> {
         let whole = match &self.whole.checked {
             Ok(whole) => whole,
             Err(number) => {
-                let (outcome, backing) = (refused(*number, buffer), self.backing.clone());
-                return JudgedJob { outcome, backing, ways: JobWays::default() };
+                let (outcome, ways) = (refused(*number, buffer), JobWays::default());
+                return self.judged(outcome, ways);
             }
         };
         let written = whole.write(self.parses, buffer);
-        JudgedJob {
-            outcome: written.laid.outcome(buffer),
-            backing: self.backing.clone(),
-            ways: written.ways,
-        }
+        self.judged(written.laid.outcome(buffer), written.ways)
+    }
+
+    fn judged(&self, outcome: Outcome, ways: JobWays) -> JudgedJob {
+        let too_many_matches = self.whole.too_many_matches;
+        JudgedJob { outcome, backing: self.backing.clone(), ways, too_many_matches }
     }
 }
 

@@ -1,10 +1,10 @@
-//! A job.
+//! A job over its candidate list.
 
 use input::{File, Parses, Rules};
 
 use crate::matching::Range;
 
-/// The answer of a job. What is not used is 0.
+/// The answer of a job or a walk. What is not used is 0.
 #[repr(C)]
 #[derive(Clone, Copy, Debug, Default, PartialEq, Eq)]
 pub struct JobAnswer {

@@ -7,5 +7,4 @@ pub mod lists;
 pub mod matching;
 pub mod rules;
 pub mod trees;
-#[cfg(feature = "tries")]
-pub mod tries;
+pub mod walk;

@@ -8,6 +8,7 @@ use library::lists::{check_pair, raw_code, read_tokens};
 use library::matching::{Range, match_node};
 use library::rules::{build_rules, resolve};
 use library::trees::{check_file, check_tree};
+use library::walk::walk;
 
 /// `$` and a name.
 fn placeholder(name: &str) -> TokenList {
@@ -78,33 +79,50 @@ fn a_node_is_matched() {
     assert_eq!(ask(1, Range::default()).refusal, 23);
 }
 
-#[test]
-fn a_job_is_done() {
-    // `1 ==>> 2`, where the kind of a type is never parsed.
+/// `1 ==>> 2`, where the kind of a type is never parsed.
+fn one_to_two() -> Rules {
     let two = node(2050, [token(12, "2")]);
     let mut pairs = decode(&rules()).expect("a directory that can be cut");
     pairs[0].has_template = true;
     pairs[0].template =
         Side { list: token_list(&[(12, "2")]), code: two.text(), ..Side::default() };
     pairs[0].template.trees[0].words = two.words();
-    let file = File { facts: fact(6, 0, [1, 0, 0]).to_vec(), ..file() };
+    encode(&pairs, b"")
+}
+
+/// The file with its node in a module.
+fn file_in_module() -> File {
+    File { facts: fact(6, 0, [1, 0, 0]).to_vec(), ..file() }
+}
+
+const EDITED: &[u8; 15] = b"\0\0\0\x50\x01\0\0\x60\x01\0\0\x702\0\0";
+
+#[test]
+fn a_job_is_done() {
+    let (rules, file, parses) = (one_to_two(), file_in_module(), Parses::default());
     let ask = |candidates: &[u32], out: &mut [u8]| {
-        job(&encode(&pairs, b""), &file, &Parses::default(), candidates, Range::default(), out)
+        job(&rules, &file, &parses, candidates, Range::default(), out)
     };
     let mut out = [7; 15];
     assert_eq!(ask(&[0, 0], &mut out), JobAnswer { length: 13, ..JobAnswer::default() });
-    assert_eq!(out, *b"\0\0\0\x50\x01\0\0\x60\x01\0\0\x702\0\0");
+    assert_eq!(out, *EDITED);
     assert_eq!(ask(&[0, 0], &mut [7; 12]).refusal, 30);
     assert_eq!(ask(&[1, 0], &mut [7; 15]).refusal, 25);
     assert_eq!(ask(&[], &mut []), JobAnswer::default());
 }
 
-#[cfg(feature = "tries")]
 #[test]
-fn matches_are_counted() {
-    let counted = |rule, rounds| {
-        let counted = library::tries::count_matches(&rules(), &file(), rule, rounds);
-        (counted.refusal, counted.matches)
-    };
-    assert_eq!([counted(0, 0), counted(0, 3), counted(1, 3)], [(0, 0), (0, 3), (23, 0)]);
+fn a_file_is_walked() {
+    let (file, parses) = (file_in_module(), Parses::default());
+    let ask = |rules: &Rules, range, out: &mut [u8]| walk(rules, &file, &parses, range, out);
+    let mut out = [7; 15];
+    let list = JobAnswer { length: 13, ..JobAnswer::default() };
+    assert_eq!(ask(&one_to_two(), Range::default(), &mut out), list);
+    assert_eq!(out, *EDITED);
+    assert_eq!(ask(&one_to_two(), Range::default(), &mut [7; 12]).refusal, 30);
+    assert_eq!(ask(&rules(), Range::default(), &mut [7; 15]).refusal, 27);
+    let backward = Range { given: 1, start: 2, end: 1 };
+    assert_eq!(ask(&one_to_two(), backward, &mut [7; 15]).refusal, 25);
+    let behind = Range { given: 1, start: 1, end: 1 };
+    assert_eq!(ask(&one_to_two(), behind, &mut []), JobAnswer::default());
 }

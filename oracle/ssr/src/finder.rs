@@ -3,7 +3,7 @@
 use hir::{EditionedFileId, FilePosition, FileRange, Semantics};
 use ide_db::RootDatabase;
 use ide_db::base_db::SourceDatabase;
-use input::{Binding, BuiltRule, Kept, Matched, Parses, TemplateTree, TokenList};
+use input::{Binding, BuiltRule, Job, Kept, Matched, Parses, Task, TemplateTree, TokenList};
 use syntax::ast::{AstNode, AstToken, SelfParamKind};
 use syntax::tree::Origin;
 use syntax::{SyntaxNode, TextRange};
@@ -60,14 +60,14 @@ pub struct Finder<'db> {
     names: Vec<Vec<String>>,
 }
 
-/// Nodes of the file, collected to be tried with rules. This is for timing.
-pub struct Tries<'a, 'db> {
-    finder: &'a Finder<'db>,
-    nodes: Vec<SyntaxNode>,
-}
-
 /// Accepted candidates, in the order of asking.
 pub struct Found(Vec<Match>);
+
+impl Found {
+    pub fn count(&self) -> usize {
+        self.0.len()
+    }
+}
 
 /// Kept matches, nested.
 pub struct Nested(SsrMatches);
@@ -152,12 +152,28 @@ impl<'db> Finder<'db> {
         self.find(nodes.flat_map(|node| (0..rules).map(move |rule| (node, rule))), range)
     }
 
-    /// Some nodes of the file, for [`Tries::count_matches`].
-    pub fn tries(&self, nodes: impl IntoIterator<Item = u32>) -> Result<Tries<'_, 'db>, Stopped> {
+    /// The same as one run of any number of steps, so that nothing but the crate's own work is done for a
+    /// try. This is for timing.
+    pub fn walk_at_once(&self, range: Option<(u32, u32)>) -> Result<Found, Stopped> {
         let file = self.workspace.file.as_ref().ok_or(NotFed::NoSuchNodeOrRule)?;
-        let node = |element| file.node(element).ok_or(NotFed::NoSuchNodeOrRule);
-        let nodes: Result<_, NotFed> = nodes.into_iter().map(node).collect();
-        Ok(Tries { finder: self, nodes: nodes? })
+        let range = restrict_range(range)?;
+        let mut found = Vec::new();
+        run_for(u64::MAX, || {
+            for node in file.root().descendants() {
+                let get_match = |rule| matching::get_match(false, rule, &node, &range, &self.sema);
+                found.extend(self.rules.iter().filter_map(|rule| get_match(rule).ok()));
+            }
+        })?;
+        Ok(Found(found))
+    }
+
+    /// The accepted ones of a job's candidates, or of the walk's.
+    pub fn find_all(&self, task: Task, job: &Job) -> Result<Found, Stopped> {
+        let listed = job.candidates.chunks_exact(2).map(|pair| (pair[0], pair[1]));
+        match task {
+            Task::Job => self.find(listed, job.range),
+            Task::Walk => self.walk(job.range),
+        }
     }
 
     fn candidate(
@@ -252,24 +268,6 @@ impl<'db> Finder<'db> {
             Err(Ended::TooLong) => return Err(NotFed::TooLong.into()),
         };
         Ok(Rendered { rendering, asked })
-    }
-}
-
-impl Tries<'_, '_> {
-    /// How many nodes there are.
-    pub fn nodes(&self) -> usize {
-        self.nodes.len()
-    }
-
-    /// How many nodes the crate matches with a rule, `rounds` times over. All tries are one run of any
-    /// number of steps, so that nothing but the crate's own work is done for a node.
-    pub fn count_matches(&self, rule: usize, rounds: u32) -> Result<usize, Stopped> {
-        let Finder { sema, rules, .. } = self.finder;
-        let rule = rules.get(rule).ok_or(NotFed::NoSuchNodeOrRule)?;
-        let is_match =
-            |node: &&SyntaxNode| matching::get_match(false, rule, node, &None, sema).is_ok();
-        let matches = |_| self.nodes.iter().filter(is_match).count();
-        Ok(run_for(u64::MAX, || (0..rounds).map(matches).sum())?)
     }
 }
 

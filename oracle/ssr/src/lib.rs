@@ -37,7 +37,7 @@ pub use crate::api::{
     Asked, MissingParse, NotFed, Rendered, Rendering, ResolvedRuleSides, ResolvedSide, Stopped,
 };
 pub use crate::feed::Workspace;
-pub use crate::finder::{Finder, Found, Nested, Tries, build};
+pub use crate::finder::{Finder, Found, Nested, build};
 pub use crate::reading::{check_pair, hand_in, parse_once, raw_code, read_tokens, tokens_once};
 pub use crate::run::on_large_stack;
 pub use crate::{errors::SsrError, matching::Match};

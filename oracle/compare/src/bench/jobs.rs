@@ -9,56 +9,72 @@
 use std::hint::black_box;
 
 use corpus::case::CaseAnswer;
-use input::{File, Job, Pair, edits};
+use input::{Job, Pair, Task, edits, pairs};
 use judge::whole_job;
-use library::job::job;
-use library::matching::Range;
-use ssr::{Finder, MissingParse, Rendering, Stopped, Workspace};
+use ssr::{Finder, Found, MissingParse, Rendering, Stopped, Workspace};
 
 use super::timing::medians;
 use super::{Given, table};
+use crate::jobs::call::{asked, range_of};
 use crate::jobs::{among_others, matching};
 
 /// The room of a buffer is the least multiple of this that holds the list.
 const BUFFER: usize = 4_096;
 
 /// Groups of jobs by the elements of their files.
-const GROUPS: [(&str, usize, usize); 4] = [
+pub const GROUPS: [(&str, usize, usize); 4] = [
     ("files of up to 99 elements", 0, 99),
     ("of 100 to 999", 100, 999),
     ("of 1,000 and more", 1_000, usize::MAX),
     ("all files", 0, usize::MAX),
 ];
 
-/// A job with an edit list.
-struct Asked<'a> {
-    job: Job,
-    pairs: &'a [Pair],
-    fact_text: &'a [u8],
-    file: &'a File,
+/// A job with an edit list, whose candidates are all that match.
+#[derive(Clone)]
+pub struct Asked {
+    pub job: Job,
+    pairs: Vec<Pair>,
     /// The edited text of a real build.
     edited: Vec<u8>,
 }
 
+impl Asked {
+    /// A walk, with the crate's edited text for that of a real build; nothing where the crate has none.
+    pub fn of_walk(job: Job) -> Option<Asked> {
+        let pairs = pairs::decode(&job.rules)?;
+        let asked = Asked { job, pairs, edited: Vec::new() };
+        let edited = in_crate(&asked, Task::Walk).ok().flatten()?;
+        Some(Asked { edited, ..asked })
+    }
+}
+
 /// Whether both sides have the edited texts of a real build, in the cases that no listed difference
 /// covers.
-pub fn run(cases: &[&Given]) -> bool {
-    let all: Vec<Asked> = cases.iter().filter_map(|given| asked(given)).collect();
+pub fn run(all: Vec<Asked>) -> bool {
     table::head(
         "Whole jobs whose candidates are all that match: microseconds",
         &["", "jobs", "candidates", "the library", "the crate", "of it trees, facts", "ratio"],
     );
     let mut equal = true;
     for (name, least, most) in GROUPS {
-        let elements = |asked: &&Asked| (least..=most).contains(&(asked.file.tree.len() / 3));
-        equal &= report(name, &all.iter().filter(elements).collect::<Vec<_>>());
+        equal &= report(name, &of_size(&all, least, most));
     }
     let padded: Vec<Asked> = all.into_iter().map(with_others).collect();
     report("all files, with 1,024 candidates", &padded.iter().collect::<Vec<_>>()) && equal
 }
 
-/// The case as a job; nothing where its answer is no list, or a listed difference covers it.
-fn asked(given: &Given) -> Option<Asked<'_>> {
+/// Those whose files have so many elements.
+pub fn of_size(all: &[Asked], least: usize, most: usize) -> Vec<&Asked> {
+    let elements = |asked: &&Asked| (least..=most).contains(&(asked.job.file.tree.len() / 3));
+    all.iter().filter(elements).collect()
+}
+
+/// The cases as jobs, without those whose answer is no list or that a listed difference covers.
+pub fn all_asked(cases: &[&Given]) -> Vec<Asked> {
+    cases.iter().filter_map(|given| asked_case(given)).collect()
+}
+
+fn asked_case(given: &Given) -> Option<Asked> {
     let case = &given.case;
     let CaseAnswer::Edits(list, edits) = &case.answer else { return None };
     let job = Job {
@@ -69,12 +85,11 @@ fn asked(given: &Given) -> Option<Asked<'_>> {
         parses: case.parses.clone(),
         buffer: list.len().next_multiple_of(BUFFER).max(BUFFER),
     };
-    if !whole_job(&job, true, |whole| whole.covered().is_empty()) {
+    if !whole_job(Task::Job, &job, true, |whole| whole.covered().is_empty()) {
         return None;
     }
     let edited = edits::apply(edits, &case.file.text).ok()?;
-    let (pairs, fact_text, file) = (&case.pairs[..], &case.fact_text[..], &case.file);
-    Some(Asked { job, pairs, fact_text, file, edited })
+    Some(Asked { job, pairs: case.pairs.clone(), edited })
 }
 
 /// The same with candidates that do not match, as many as there may be.
@@ -85,19 +100,12 @@ fn with_others(asked: Asked) -> Asked {
 }
 
 fn report(name: &str, asked: &[&Asked]) -> bool {
-    let is_edited = |edited: Option<Vec<u8>>, asked: &Asked| edited.as_ref() == Some(&asked.edited);
-    let differs = |asked: &&&Asked| {
-        !is_edited(in_library(asked), asked) || !is_edited(in_crate(asked).ok().flatten(), asked)
-    };
-    let different = asked.iter().filter(differs).count();
-    if different > 0 {
-        println!("{name}: {different} different");
+    if !is_same(name, asked, Task::Job) {
         return false;
     }
-    let count = |edited: Option<Vec<u8>>| u32::from(edited.is_some());
-    let library = || asked.iter().map(|asked| count(in_library(black_box(asked)))).sum();
-    let own = || asked.iter().map(|asked| count(in_crate(black_box(asked)).ok().flatten())).sum();
-    let before = || asked.iter().map(|asked| u32::from(fed(black_box(asked)).is_ok())).sum();
+    let library = || count(asked, |asked| in_library(asked, Task::Job));
+    let own = || count(asked, |asked| in_crate(asked, Task::Job).ok().flatten());
+    let before = || count(asked, |asked| fed(asked).ok());
     let times = medians([&library, &own, &before]);
     let [library, own, before] = times.map(|time| time.as_secs_f64() * 1e6 / asked.len() as f64);
     let candidates = asked.iter().map(|asked| asked.job.candidates.len() / 2).sum();
@@ -108,14 +116,30 @@ fn report(name: &str, asked: &[&Asked]) -> bool {
     true
 }
 
+/// Whether both sides have the edited texts.
+pub fn is_same(name: &str, asked: &[&Asked], task: Task) -> bool {
+    let is_edited = |edited: Option<Vec<u8>>, asked: &Asked| edited.as_ref() == Some(&asked.edited);
+    let differs = |asked: &&&Asked| {
+        let own = in_crate(asked, task).ok().flatten();
+        !is_edited(in_library(asked, task), asked) || !is_edited(own, asked)
+    };
+    let different = asked.iter().filter(differs).count();
+    if different > 0 {
+        println!("{name}: {different} different");
+    }
+    different == 0
+}
+
+/// How many have a result: some work for a clock.
+pub fn count<T>(asked: &[&Asked], work: impl Fn(&Asked) -> Option<T>) -> u32 {
+    asked.iter().map(|asked| u32::from(black_box(work(black_box(asked))).is_some())).sum()
+}
+
 /// The edited text; nothing where the answer is no list.
-fn in_library(asked: &Asked) -> Option<Vec<u8>> {
-    let Job { rules, file, candidates, range, parses, buffer } = &asked.job;
-    let (start, end) = range.unwrap_or_default();
-    let (start, end) = (start as usize, end as usize);
-    let range = Range { given: u32::from(range.is_some()), start, end };
+pub fn in_library(of: &Asked, task: Task) -> Option<Vec<u8>> {
+    let Job { file, parses, buffer, .. } = &of.job;
     let mut out = vec![0; *buffer];
-    let answer = job(rules, file, parses, candidates, range, &mut out);
+    let answer = asked(task, &of.job, parses, range_of(&of.job), &mut out);
     if answer.refusal != 0 || answer.asked != 0 {
         return None;
     }
@@ -123,11 +147,18 @@ fn in_library(asked: &Asked) -> Option<Vec<u8>> {
     edits::apply(&edits, &file.text).ok()
 }
 
-fn in_crate(asked: &Asked) -> Result<Option<Vec<u8>>, Stopped> {
+pub fn in_crate(asked: &Asked, task: Task) -> Result<Option<Vec<u8>>, Stopped> {
     let workspace = fed(asked)?;
     let finder = Finder::without_names(&workspace)?;
-    let candidates = asked.job.candidates.chunks_exact(2).map(|pair| (pair[0], pair[1]));
-    let nested = finder.nest(finder.find(candidates, asked.job.range)?)?;
+    let found = match task {
+        Task::Job => finder.find_all(task, &asked.job)?,
+        Task::Walk => finder.walk_at_once(asked.job.range)?,
+    };
+    rendered(asked, &finder, found)
+}
+
+fn rendered(asked: &Asked, finder: &Finder, found: Found) -> Result<Option<Vec<u8>>, Stopped> {
+    let nested = finder.nest(found)?;
     let rendered = finder.edited_text(&nested, &asked.job.parses, MissingParse::Stop)?;
     Ok(match rendered.rendering {
         Rendering::Edited(text) => Some(text.into_bytes()),
@@ -135,6 +166,8 @@ fn in_crate(asked: &Asked) -> Result<Option<Vec<u8>>, Stopped> {
     })
 }
 
-fn fed(asked: &Asked) -> Result<Workspace, Stopped> {
-    Workspace::new(asked.pairs, asked.fact_text, Some(asked.file))
+/// The crate's trees and facts.
+pub fn fed(asked: &Asked) -> Result<Workspace, Stopped> {
+    let Job { rules, file, .. } = &asked.job;
+    Workspace::new(&asked.pairs, &rules.fact_text, Some(file))
 }

@@ -1,4 +1,7 @@
-//! Tables in Markdown.
+//! Tables in Markdown, and plots in text.
+
+/// The longest bar.
+const BAR: f64 = 50.0;
 
 pub fn head(title: &str, columns: &[&str]) {
     println!("\n{title}\n");
@@ -8,6 +11,22 @@ pub fn head(title: &str, columns: &[&str]) {
 
 pub fn row(cells: &[String]) {
     println!("| {} |", cells.join(" | "));
+}
+
+/// A bar for each number of each row, as long as it is beside the largest of all.
+pub fn plot<const N: usize>(what: &str, rows: &[(String, [(&str, f64); N])]) {
+    let all = || rows.iter().flat_map(|(_, bars)| bars);
+    let most = all().map(|(_, number)| *number).fold(0.0, f64::max);
+    let wide = rows.iter().map(|(name, _)| name.len()).chain([what.len()]).max().unwrap_or(0);
+    let name_wide = all().map(|(name, _)| name.len()).max().unwrap_or(0);
+    println!("\n    {what:>wide$}");
+    for (row, bars) in rows {
+        for (place, (name, number)) in bars.iter().enumerate() {
+            let row = if place == 0 { row } else { "" };
+            let bar = "#".repeat((number / most * BAR).round() as usize);
+            println!("    {row:>wide$}  {name:name_wide$}  {bar} {number:.0}");
+        }
+    }
 }
 
 /// A number with commas.

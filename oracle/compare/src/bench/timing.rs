@@ -13,13 +13,31 @@ pub fn medians<const N: usize>(works: [&dyn Fn() -> u32; N]) -> [Duration; N] {
         let once = repeated(1, work).as_nanos().max(1);
         (ROUND.as_nanos() / once).clamp(1, 10_000) as u32
     });
+    in_turns(ROUNDS, repeats, works).map(median)
+}
+
+/// The least time and the median of so many calls of each, which take turns.
+pub fn best_and_median<const N: usize>(
+    runs: usize,
+    works: [&dyn Fn() -> u32; N],
+) -> [[Duration; 2]; N] {
+    in_turns(runs, [1; N], works)
+        .map(|times| [*times.iter().min().unwrap_or(&ROUND), median(times)])
+}
+
+/// The times of a call of each in each round.
+fn in_turns<const N: usize>(
+    count: usize,
+    repeats: [u32; N],
+    works: [&dyn Fn() -> u32; N],
+) -> [Vec<Duration>; N] {
     let mut rounds = [const { Vec::new() }; N];
-    for _ in 0..ROUNDS {
+    for _ in 0..count {
         for (i, work) in works.iter().enumerate() {
             rounds[i].push(repeated(repeats[i], work) / repeats[i]);
         }
     }
-    rounds.map(median)
+    rounds
 }
 
 pub fn median(mut times: Vec<Duration>) -> Duration {
@@ -34,11 +52,4 @@ pub fn repeated<T>(repeats: u32, work: impl Fn() -> T) -> Duration {
         black_box(work());
     }
     start.elapsed()
-}
-
-/// The time of one call, and what it gives.
-pub fn timed<T>(work: impl FnOnce() -> T) -> (Duration, T) {
-    let start = Instant::now();
-    let given = black_box(work());
-    (start.elapsed(), given)
 }

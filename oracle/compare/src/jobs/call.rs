@@ -1,12 +1,13 @@
-//! A call of a job.
+//! A call of a job or a walk.
 
 use std::sync::Arc;
 use std::time::{Duration, Instant};
 
 use generator::Rng;
-use input::{Job, Operation, Parses, case_file};
+use input::{Job, Parses, Task, case_file};
 use library::job::{JobAnswer, job};
 use library::matching::Range;
+use library::walk::walk;
 
 use crate::judged::BEFORE;
 use crate::small_stack::{OF_JOBS, Worker};
@@ -17,10 +18,11 @@ const GUARD: usize = 16;
 /// What the library answers and leaves in the buffer.
 pub type Given = (JobAnswer, Vec<u8>);
 
-/// A job with the parses, the range and the buffer that it is handed; those that it has itself are
-/// not looked at.
+/// A job or a walk with the parses, the range and the buffer that it is handed; those that it has itself
+/// are not looked at.
 #[derive(Clone)]
 pub struct Call {
+    pub task: Task,
     pub job: Arc<Job>,
     pub parses: Arc<Parses>,
     pub range: Range,
@@ -29,12 +31,10 @@ pub struct Call {
 
 impl Call {
     /// The job as it is.
-    pub fn of(job: Job) -> Call {
-        let (start, end) = job.range.unwrap_or_default();
-        let (start, end) = (start as usize, end as usize);
-        let range = Range { given: u32::from(job.range.is_some()), start, end };
+    pub fn of(task: Task, job: Job) -> Call {
+        let range = range_of(&job);
         let (parses, buffer) = (Arc::new(job.parses.clone()), job.buffer);
-        Call { job: Arc::new(job), parses, range, buffer }
+        Call { task, job: Arc::new(job), parses, range, buffer }
     }
 
     /// The same with another buffer.
@@ -49,10 +49,10 @@ impl Call {
 
     /// Asks the library, and how long it took. Before the call, no byte of the buffer is 0.
     pub fn ask(&self) -> (Result<Given, String>, Duration) {
-        let &Call { job: ref of, ref parses, range, buffer } = self;
+        let &Call { task, job: ref of, ref parses, range, buffer } = self;
         let mut out = vec![BEFORE; buffer + GUARD];
         let start = Instant::now();
-        let answer = job(&of.rules, &of.file, parses, &of.candidates, range, &mut out[..buffer]);
+        let answer = asked(task, of, parses, range, &mut out[..buffer]);
         let time = start.elapsed();
         let untouched = out[buffer..].iter().all(|byte| *byte == BEFORE);
         out.truncate(buffer);
@@ -64,8 +64,22 @@ impl Call {
     pub fn as_case_file(&self) -> String {
         let parses = Parses::clone(&self.parses);
         let job = Job { parses, buffer: self.buffer, ..Job::clone(&self.job) };
-        case_file::write(&Operation::Job(job))
+        case_file::write(&self.task.on(job))
     }
+}
+
+/// The library's answer to a job or a walk.
+pub fn asked(task: Task, of: &Job, parses: &Parses, range: Range, out: &mut [u8]) -> JobAnswer {
+    match task {
+        Task::Job => job(&of.rules, &of.file, parses, &of.candidates, range, out),
+        Task::Walk => walk(&of.rules, &of.file, parses, range, out),
+    }
+}
+
+/// The range of a job as it is.
+pub fn range_of(job: &Job) -> Range {
+    let (start, end) = job.range.unwrap_or_default();
+    Range { given: u32::from(job.range.is_some()), start: start as usize, end: end as usize }
 }
 
 /// The library on a small stack.

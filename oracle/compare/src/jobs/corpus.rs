@@ -1,5 +1,5 @@
-//! The cases of a corpus as jobs: all that match, in several orders, with all parses and with one more
-//! each time.
+//! The cases of a corpus as jobs, all that match in several orders, and as walks: with all parses and with
+//! one more each time.
 
 use std::collections::BTreeMap;
 use std::sync::Arc;
@@ -7,7 +7,7 @@ use std::sync::Arc;
 use corpus::case::{Case, CaseAnswer};
 use generator::{Rng, nodes, rule_count};
 use input::build::add_parse;
-use input::{Job, Parses, edits, pairs, used};
+use input::{Job, Parses, Task, edits, pairs, used};
 use judge::{WholeJobs, whole_job};
 use ssr::{Finder, Stopped, Workspace};
 
@@ -19,13 +19,15 @@ use crate::for_each_case;
 /// The most candidates of a job.
 const CANDIDATES: usize = 1_024;
 
-/// Every case as a job: its answer, its bytes and the edited text are the real build's.
-pub fn corpus() -> Result<bool, String> {
-    let mut tally = Tally::default();
+const AS_FOUND: &str = "as found";
+
+/// Every case as a job or a walk: its answer, its bytes and the edited text are the real build's.
+pub fn corpus(task: Task) -> Result<bool, String> {
+    let mut tally = Tally::of(task);
     let mut real = Real::default();
     for_each_case(|case| real.add(&mut tally, &case))?;
     let equal = tally.print(true);
-    Ok(real.print() && equal)
+    Ok(real.print(tally.cases) && equal)
 }
 
 /// How the library's answers compare with those of a real build.
@@ -58,12 +60,12 @@ impl Real {
         if known.is_some_and(|known| known != job.candidates) {
             self.differ(case, "the matches are not those of the real build");
         }
-        for (order, candidates) in orders(&job, &case.id) {
+        for (order, candidates) in orders(tally.task, &job, &case.id) {
             tally.cases += 1;
             let job = Job { candidates, ..job.clone() };
-            whole_job(&job, true, |whole| {
+            whole_job(tally.task, &job, true, |whole| {
                 self.whole(tally, case, order, &job, whole);
-                if order == "as found" {
+                if order == AS_FOUND {
                     self.covered += u64::from(!whole.covered().is_empty());
                     self.step_by_step(tally, case, &job, whole);
                 }
@@ -75,7 +77,7 @@ impl Real {
     fn whole(&mut self, tally: &mut Tally, case: &Case, order: &str, job: &Job, whole: &WholeJobs) {
         let name = || format!("{}, {order}", case.id);
         let parsed = whole.with(&job.parses, true);
-        let call = Call::of(job.clone());
+        let call = Call::of(tally.task, job.clone());
         let mut buffers = vec![job.buffer];
         if let CaseAnswer::Edits(list, _) = &case.answer {
             buffers.extend([list.len(), list.len() + 9]);
@@ -105,7 +107,7 @@ impl Real {
         let known = checker::read_parses(&case.parses).unwrap_or_default();
         let known: BTreeMap<(u32, &[u8]), _> =
             known.iter().map(|parse| ((parse.kind, parse.text), &parse.ranges)).collect();
-        let call = Call::of(job.clone());
+        let call = Call::of(tally.task, job.clone());
         let mut parses = Parses::default();
         let mut texts: Vec<(u32, Vec<u8>)> = Vec::new();
         loop {
@@ -137,12 +139,14 @@ impl Real {
         println!("{}: {what}", case.id);
     }
 
-    fn print(&self) -> bool {
+    /// So many answers of a real build were compared.
+    fn print(&self, asked: u64) -> bool {
         let Real { refused, lists, edits, covered, askings, crate_askings, different } = self;
         println!(
-            "answers of a real build: {lists} lists with {edits} edits and {refused} refusals equal; \
+            "answers of a real build: {} of {asked} equal, {lists} lists with {edits} edits and {refused} refusals; \
              {askings} texts asked for one after another, in {crate_askings} cases as by the crate; \
-             {covered} cases are covered by a listed difference; {different} different"
+             {covered} cases are covered by a listed difference; {different} different",
+            lists + refused
         );
         *different == 0
     }
@@ -160,15 +164,18 @@ pub fn matching(case: &Case) -> Vec<u32> {
     found().unwrap_or_default()
 }
 
-/// The candidates as found, reversed, shuffled, and among others that do not match.
-fn orders(job: &Job, id: &str) -> [(&'static str, Vec<u32>); 4] {
+/// The candidates as found, reversed, shuffled, and among others that do not match; a walk has none.
+fn orders(task: Task, job: &Job, id: &str) -> Vec<(&'static str, Vec<u32>)> {
+    if task == Task::Walk {
+        return vec![(AS_FOUND, Vec::new())];
+    }
     let rng = &mut Rng::from_bytes(id.as_bytes());
     let found = job.candidates.as_chunks::<2>().0;
     let reversed: Vec<[u32; 2]> = found.iter().rev().copied().collect();
     let mut shuffled = found.to_vec();
     rng.shuffle(&mut shuffled);
-    [
-        ("as found", found.concat()),
+    vec![
+        (AS_FOUND, found.concat()),
         ("reversed", reversed.concat()),
         ("shuffled", shuffled.concat()),
         ("among others", among_others(job, rng)),

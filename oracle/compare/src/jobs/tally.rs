@@ -1,9 +1,9 @@
-//! What came of the questions about jobs.
+//! What came of the questions about jobs, or about walks.
 
 use std::collections::BTreeMap;
 
 use checker::{JOB_WAYS, JobWays};
-use input::Answer;
+use input::{Answer, Task};
 use judge::{Backing, JudgedJob};
 use ssr::NotFed;
 
@@ -25,6 +25,7 @@ pub struct Asked {
 
 #[derive(Default)]
 pub struct Tally {
+    pub task: Task,
     library: Library,
     pub cases: u64,
     equal: u64,
@@ -36,6 +37,8 @@ pub struct Tally {
     /// The crate may have another answer, by a listed difference.
     listed: u64,
     numbers: BTreeMap<u32, u64>,
+    /// How often the number was 24 for the matches of a walk.
+    too_many_matches: u64,
     asked: u64,
     lists: u64,
     empty_lists: u64,
@@ -47,6 +50,10 @@ pub struct Tally {
 }
 
 impl Tally {
+    pub fn of(task: Task) -> Tally {
+        Tally { task, ..Tally::default() }
+    }
+
     /// Asks the library, on a small stack, and compares: what it gives, where that can be told.
     pub fn ask(
         &mut self,
@@ -70,6 +77,7 @@ impl Tally {
         let is_list = match judged.outcome.answer {
             Answer::Refused(number) => {
                 *self.numbers.entry(number).or_default() += 1;
+                self.too_many_matches += u64::from(judged.too_many_matches);
                 false
             }
             Answer::Edits(length) => {
@@ -117,9 +125,20 @@ impl Tally {
         }
     }
 
-    /// The numbers that no answer was.
+    /// The numbers that no answer was. For a walk, 24 has to come up for its rules and for its matches.
     pub fn missing_numbers(&self) -> Vec<u32> {
-        NUMBERS.into_iter().filter(|number| !self.numbers.contains_key(number)).collect()
+        let is_met = |number: u32| {
+            let count = self.numbers.get(&number).copied().unwrap_or(0);
+            let by_matches = self.too_many_matches;
+            let is_walks_24 = number == 24 && self.task == Task::Walk;
+            if is_walks_24 { by_matches > 0 && count > by_matches } else { count > 0 }
+        };
+        self.own_numbers().filter(|number| !is_met(*number)).collect()
+    }
+
+    /// A walk has no pair twice.
+    fn own_numbers(&self) -> impl Iterator<Item = u32> {
+        NUMBERS.into_iter().filter(|number| *number != 26 || self.task == Task::Job)
     }
 
     /// The ways that no answer went.
@@ -135,6 +154,9 @@ impl Tally {
                 println!("{count:10}  refused {number}");
             }
         }
+        if self.task == Task::Walk {
+            println!("{:10}  refused 24 for over 1,024 matches", self.too_many_matches);
+        }
         println!("{:10}  asked", self.asked);
         println!("{:10}  a list, {} of them empty", self.lists, self.empty_lists);
         if ways {
@@ -146,8 +168,9 @@ impl Tally {
         }
         let Tally { cases, equal, different, by_crate, bytes, .. } = self;
         let Tally { by_checker, too_long, listed, .. } = self;
+        let tasks = if self.task == Task::Walk { "walks" } else { "jobs" };
         println!(
-            "{cases} jobs; on a stack of {OF_JOBS} bytes: {} answers, {equal} equal, {different} different; \
+            "{cases} {tasks}; on a stack of {OF_JOBS} bytes: {} answers, {equal} equal, {different} different; \
              {by_crate} are the crate's own, {by_checker} the checker's alone, {too_long} the checker's where \
              the crate's work doubles, {listed} the checker's by a listed difference; {bytes} bytes of lists",
             equal + different

@@ -8,10 +8,10 @@ use Rattle.ssr.proofs.match_exports.ssr_match_node.Tie as tie
 
 returns : tie.Need-returns
 returns c =
-    let c₁ = c .before in let c₅ = c₁ .before .before .before .before in
-    (rw (c .bindings-of .ensures, c₁ .case-numbers .ensures) (ap nodeMatched (c₅ .match-node .ensures .0)), c₅ .match-node .ensures .1)
+    let m = rw (c .before .before .before .before .before .before .before .restriction-of .ensures) at (c .before .before .before .before .before .match-node .ensures) in
+    (rw (c .bindings-of .ensures, c .before .case-numbers .ensures) (ap nodeMatched (m .0)), m .1)
 
 pub ssr-match-node-spec : {M : Type 1} → statement M
 ssr-match-node-spec =
     tie.close
-    (tie.spec (λ c κs. search needs) (λ c κs. search needs) (λ c κs. search needs) (λ c. search needs) returns)
+    (tie.spec (λ c κs. search needs) (λ c κs. search needs) (λ c κs. search needs) (λ c κs. search needs) (λ c. search needs) returns)

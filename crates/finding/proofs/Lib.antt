@@ -1,0 +1,4 @@
+pub mod CandidateLaws
+pub mod TableLaws
+pub mod NodeLaws
+pub mod RuleLaws

@@ -1,0 +1,2 @@
+pub mod WalkCandidates
+pub mod Finds
