@@ -66,6 +66,14 @@ module _ (number : ℕ) (attempt : ℕ → ℕ → Attempt) (modules : ℕ → �
     later = λ i h. (λ k j. refl, λ k j. refl);
   }
 
+  -- no key is of this number
+  pub gathers-unnamed : ((i : ℕ) → i < length keys → getD keys i 0 % 16 ≡ number → ⊥) → Gathers number attempt modules (length keys) keys r l r l
+  gathers-unnamed none = record {
+    told = λ i h e. absurd (none i h e);
+    others = λ i d. (λ k h. refl, λ k h. refl);
+    later = λ i h. (λ k j. refl, λ k j. refl);
+  }
+
   module _ (n : ℕ) (r′ l′ : List ℕ) (so-far : Gathers number attempt modules n keys r l r′ l′) where
     -- the key is of another rule
     pub gathers-other : (getD keys n 0 % 16 ≡ number → ⊥) → Gathers number attempt modules (n + 1) keys r l r′ l′

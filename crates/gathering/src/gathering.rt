@@ -12,8 +12,8 @@ use rules::numbering::Rule;
 ghost use mathlib.Core.Path.{_≡_};
 ghost use mathlib.Core.Bool.{true, false};
 ghost use mathlib.Core.List.{map};
-ghost use Prim.Native.Nat.{_+_, _*_, _<_, _≤_};
-ghost use lib.ListN.{length};
+ghost use Prim.Native.Nat.{ℕ, _+_, _*_, _%_, _<_, _≤_};
+ghost use lib.ListN.{length, getD};
 ghost use Rattle.errors.specs.declared.Outcome.the-variants.{Accepted};
 ghost use Rattle.fragments.specs.Pairs.{pairs, pairOf, pairAt};
 ghost use Rattle.rules.specs.declared.stages.Stage.the-variants.{TreesWithFacts};
@@ -194,7 +194,7 @@ fn gather_rule(
 }
 
 // The candidates of the rule of a number, which is there.
-fn gather_number(
+fn gather_found(
     directory: &[u32],
     words: &[u32],
     bytes: &[u8],
@@ -241,6 +241,70 @@ fn gather_number(
             rows,
             links,
         ),
+    }
+}
+
+// Whether a key is of a rule's number.
+fn is_named(keys: &[u64], number: usize) -> bool
+    ensures { λ r. ⌜ (r ≡ false → (i : ℕ) → i < length (now (keys .entry)) → getD (now (keys .entry)) i 0 % 16 ≡ number → ⊥) ⌝ }
+{
+    let mut i: usize = 0;
+    while i < keys.len() {
+        if keys[i] % 16 == number as u64 {
+            return true;
+        }
+        i += 1;
+    }
+    false
+}
+
+// The same, unless there are none: then the rule is not made ready.
+fn gather_number(
+    directory: &[u32],
+    words: &[u32],
+    bytes: &[u8],
+    fact_bytes: usize,
+    tree: &[u32],
+    text: &[u8],
+    facts: &[u32],
+    file_index: &[u64],
+    number: usize,
+    range: Restriction,
+    keys: &[u64],
+    index: &mut [u64],
+    spare: &mut [u64],
+    paths: &mut [u32],
+    calls: &mut [u32],
+    marks: &mut [u32],
+    rows: &mut [u32],
+    links: &mut [u32],
+)
+    requires { ⌜ (stageOutcome TreesWithFacts «fact_bytes» (pairs (now directory) (now words) (now bytes)) ≡ Accepted) × (any (map pairFails (pairs (now directory) (now words) (now bytes))) ≡ false) ⌝ }
+    requires { ⌜ AllRoomy (now words) (now index) (now spare) (now paths) (now calls) × MarksRoomy (now words) (now marks) × FileOf (now tree) (now facts) (now «file_index») ⌝ }
+    requires { ⌜ AreNodes (fileOf (now tree) (now text) (now facts)) (now keys) × HaveRoom (now keys) (now rows) (now links) × (number < 16) × (number < length (rules (pairs (now directory) (now words) (now bytes)))) ⌝ }
+    ensures { λ _. ⌜ Gathers number (attemptOf (rulesOf (now (directory .entry)) (now (words .entry)) (now (bytes .entry)) «fact_bytes») (fileOf (now (tree .entry)) (now (text .entry)) (now (facts .entry))) range) (moduleOf (now (facts .entry))) (length (now (keys .entry))) (now (keys .entry)) (now (rows .entry)) (now (links .entry)) (now (rows .exit)) (now (links .exit)) ⌝ }
+{
+    if is_named(keys, number) {
+        gather_found(
+            directory,
+            words,
+            bytes,
+            fact_bytes,
+            tree,
+            text,
+            facts,
+            file_index,
+            number,
+            range,
+            keys,
+            index,
+            spare,
+            paths,
+            calls,
+            marks,
+            rows,
+            links,
+        );
     }
 }
 

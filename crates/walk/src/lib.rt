@@ -64,7 +64,7 @@ fn write_found<'a>(
 {
     let end = found * 2;
     candidates::order_candidates(&candidates[..end], &mut keys[..found], &mut more[..found]);
-    job::write_checked(
+    job_list::write_checked(
         directory,
         words,
         bytes,

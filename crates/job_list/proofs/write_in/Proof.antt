@@ -1,4 +1,4 @@
--- `job::write_in` meets its contract.
+-- `job_list::write_in` meets its contract.
 -- Assumes nothing.
 use mathlib.Core.List.{List}
 use mathlib.Core.Path.{_≡_, refl, sym, ap, _∙_}
@@ -14,8 +14,8 @@ use Rattle.edits.specs.Answers.{answerOf, bytesOf}
 use Rattle.render_replace.proofs.RunLaws.{lent-after, marks-after}
 use Rattle.job_checks.specs.Checks.{Job, jobOf}
 use Rattle.job_rows.specs.Rows.{worldIn}
-use Rattle.job.proofs.write_in.Statement.{statement}
-use Rattle.job.proofs.write_in.Tie as tie
+use Rattle.job_list.proofs.write_in.Statement.{statement}
+use Rattle.job_list.proofs.write_in.Tie as tie
 
 -- the job that is handed in
 abbrev asked : tie.Start → Job

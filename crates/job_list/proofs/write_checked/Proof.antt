@@ -1,9 +1,9 @@
--- `job::write_checked` meets its contract.
+-- `job_list::write_checked` meets its contract.
 -- Assumes nothing.
 use native.Mathlib.Omega.{arith}
 use borrow.Author.Needs.{needs}
-use Rattle.job.proofs.write_checked.Statement.{statement}
-use Rattle.job.proofs.write_checked.Tie as tie
+use Rattle.job_list.proofs.write_checked.Statement.{statement}
+use Rattle.job_list.proofs.write_checked.Tie as tie
 
 write-few-requires : tie.Need-write-few-requires
 write-few-requires c κs =

@@ -1,9 +1,9 @@
--- `job::write_many` meets its contract.
+-- `job_list::write_many` meets its contract.
 -- Assumes nothing.
 use native.Mathlib.Omega.{arith}
 use borrow.Author.Needs.{needs}
-use Rattle.job.proofs.write_many.Statement.{statement}
-use Rattle.job.proofs.write_many.Tie as tie
+use Rattle.job_list.proofs.write_many.Statement.{statement}
+use Rattle.job_list.proofs.write_many.Tie as tie
 
 write-in-requires : tie.Need-write-in-requires
 write-in-requires c κs =
