@@ -9,8 +9,7 @@ ghost use lib.ListN.{length};
 ghost use Rattle.sorting.specs.Sorted.{sort};
 ghost use Rattle.syntax.specs.Trees.{tree};
 ghost use Rattle.syntax.specs.Checks.{WellFormed};
-ghost use Rattle.candidates.specs.Candidates.{candidateAt, candidatesOf, candidateCount, isNamed, anyBad};
-ghost use Rattle.candidates.specs.Candidates.{keyOf, keysOf, hasEqualNeighbours};
+ghost use Rattle.candidates.specs.Candidates.{candidateAt, candidatesOf, candidateCount, isNamed, anyBad, keyOf, keysOf, hasEqualNeighbours};
 
 // How many candidates there are.
 pub fn count_candidates(candidates: &[u32]) -> usize

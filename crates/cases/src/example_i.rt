@@ -1,6 +1,6 @@
 // Example I: `f($p, $q) ==>> g($q, $p)` on `f(a, b)`.
+use checks::Restriction;
 use edits::Edited;
-use get_match::Restriction;
 
 const DIRECTORY: [u32; 27] = [
     9,

@@ -1,6 +1,6 @@
 // Example K: `foo($a) ==>> $a.bar()` on `foo(x + y)`.
+use checks::Restriction;
 use edits::Edited;
-use get_match::Restriction;
 
 const DIRECTORY: [u32; 27] = [
     5,

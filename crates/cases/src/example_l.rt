@@ -1,6 +1,6 @@
 // Example L: `f($a) ==>> g($a)` on `f(1 /*c*/)`.
+use checks::Restriction;
 use edits::Edited;
-use get_match::Restriction;
 
 const DIRECTORY: [u32; 27] = [
     5,

@@ -1,6 +1,6 @@
 // Example M: `S::f($s) ==>> h($s)` and `old() ==>> new2()` on `old().f()`, self by `&`.
+use checks::Restriction;
 use edits::Edited;
-use get_match::Restriction;
 
 const DIRECTORY: [u32; 54] = [
     8,

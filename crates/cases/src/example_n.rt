@@ -1,6 +1,6 @@
 // Example N: no candidates, on a file of no bytes and without rules.
+use checks::Restriction;
 use edits::Edited;
-use get_match::Restriction;
 
 // The job; nothing but the file's tree has a word.
 fn run_on(tree: &[u32], range: Restriction, out: &mut [u8]) -> Edited {

@@ -8,7 +8,7 @@ use Rattle.errors.specs.declared.Outcome.the-variants.{Accepted, Refused}
 use Rattle.errors.specs.declared.Refusal.{Refusal}
 use Rattle.errors.specs.declared.Refusal.the-variants.{MalformedList}
 use Rattle.errors.specs.Refusals.{lowestOf, firstOf, inTurn}
-use Rattle.errors.proofs.Laws.{turn-passes, turn-refuses, turn-last}
+use Rattle.errors.proofs.Laws.{both-pass, turn-passes, turn-refuses, turn-both, turn-last}
 use Rattle.fragments.specs.Directory.{isDirectory}
 use Rattle.trees.specs.Given.{fileOutcome}
 use Rattle.rules.specs.Stages.{directoryOutcome}
@@ -29,6 +29,9 @@ module _ (q : Rules) (f : File) where
 
   pub trees-decide : isDirectory (q .directory) (q .words) (q .bytes) ≡ true → stage Lists q ≡ Accepted → givenOutcome q f ≡ inTurn (treesStage q f ∷ stage Forms q ∷ [])
   trees-decide h l = turn-passes _ _ (passes-directory h) ∙ turn-passes _ _ l
+
+  pub trees-accepted : givenOutcome q f ≡ Accepted → stage TreesWithFacts q ≡ Accepted
+  trees-accepted h = both-pass _ _ (turn-both _ _ (turn-both _ _ (turn-both _ _ h .1) .1) .0) .0
 
   -- the lowest of the rules' trees and of the file's, and then the forms
   module _ (a b : Outcome) (of-rules : a ≡ stage TreesWithFacts q) (of-file : b ≡ fileOutcome (f .words) (f .text) (f .facts)) where

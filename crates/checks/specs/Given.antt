@@ -3,14 +3,22 @@
 -- of their numbers is given."
 -- Assumes nothing.
 use Prim.Native.Nat.{ℕ}
+use mathlib.Core.Bool.{Bool, true, false, not, _&&_}
 use mathlib.Core.List.{List, [], _∷_}
+use lib.Dec.{ltb}
 use Rattle.errors.specs.declared.Outcome.{Outcome}
 use Rattle.errors.specs.Refusals.{lowestOf, inTurn}
+use Rattle.syntax.specs.Trees.{tree}
+use Rattle.syntax.specs.Accessors.{elementAt, nodeIn}
 use Rattle.trees.specs.Given.{fileOutcome}
 use Rattle.fragments.specs.Pairs.{pairs}
 use Rattle.rules.specs.declared.stages.Stage.{Stage}
 use Rattle.rules.specs.declared.stages.Stage.the-variants.{Lists, TreesWithFacts, Forms}
 use Rattle.rules.specs.Stages.{directoryOutcome, stageOutcome}
+use Rattle.rules.specs.declared.numbering.Found.{Found}
+use Rattle.rules.specs.declared.numbering.Found.the-variants.{NoSuchRule, At}
+use Rattle.rules.specs.Numbering.{rules, ruleAt}
+use Rattle.checks.specs.declared.Restriction.{Restriction}
 
 -- the file: its words, its text and its facts
 pub record File : Type 0 where
@@ -41,3 +49,21 @@ treesStage q f = lowestOf (stage TreesWithFacts q) (fileOutcome (f .words) (f .t
 -- 1 to 15, then these, then 17
 abbrev pub givenOutcome : Rules → File → Outcome
 givenOutcome q f = inTurn (directoryOutcome (q .directory) (q .words) (q .bytes) ∷ stage Lists q ∷ treesStage q f ∷ stage Forms q ∷ [])
+
+-- ---- what is asked of them
+
+-- the rule of a number
+abbrev pub foundRule : Rules → ℕ → Found
+foundRule q number = ruleAt (rules (pairs (q .directory) (q .words) (q .bytes))) number
+
+abbrev pub isFound : Found → Bool
+isFound NoSuchRule = false
+isFound (At r) = true
+
+-- a node of the file
+abbrev pub isNodeOf : File → ℕ → Bool
+isNodeOf f node = nodeIn 1 4095 (elementAt node (tree (f .words)))
+
+-- not "a range whose start is after its end"
+abbrev pub isRange : Restriction → Bool
+isRange range = not (range .given && ltb (range .end) (range .start))

@@ -1,4 +1,4 @@
-// What is checked before rules are resolved: the rules, and the file's tree with its facts among the rules' trees.
+// What is handed in and checked before rules are resolved: the rules, and the file's tree with its facts among the rules' trees.
 use errors::Outcome;
 use errors::Refusal;
 use fragments::directory::is_directory;
@@ -14,6 +14,13 @@ ghost use Rattle.syntax.specs.Checks.{WellFormed};
 ghost use Rattle.facts.specs.Keys.{Indexed};
 ghost use Rattle.rules.specs.declared.stages.Stage.the-variants.{Forms};
 ghost use Rattle.checks.specs.Given.{fileOf, rulesOf, stage, treesStage, givenOutcome};
+
+// The range that matches are restricted to, where one is given.
+pub struct Restriction {
+    pub given: bool,
+    pub start: usize,
+    pub end: usize,
+}
 
 // 18 to 21 of the rules' trees and of the file's, the lowest of their numbers, then 17.
 fn check_trees(

@@ -13,8 +13,7 @@ use Rattle.nester.specs.Fates.{inside, Row, shown}
 use Rattle.nester.specs.Places.{Item, laid}
 use Rattle.nester.specs.Rows.{bindingIn, matchIn, rowIn, Candidates, Held}
 use Rattle.rendering.specs.Texts.{Fragment, fixed, captured, Setting}
-use Rattle.rendering.specs.Traces.{Trace, done, _then_, first, tracesOf, holeTrace, finishedTrace, matchTrace}
-use Rattle.rendering.specs.Traces.{filledTrace, slotTrace, renderedTrace}
+use Rattle.rendering.specs.Traces.{Trace, done, _then_, first, tracesOf, holeTrace, finishedTrace, matchTrace, filledTrace, slotTrace, renderedTrace}
 use Rattle.rows.specs.Rows.{World, isNested, rowTraceBy, fillTrace, rowTrace}
 use Rattle.rows.specs.Told.{isFixed, toldText, toldSlot, toldReceiver, fragmentOf, fragmentsOf}
 use Rattle.collections.specs.Worlds.{worldOf, eachFrom, rowsFrom, LowSlot, LowSlots}

@@ -52,6 +52,7 @@ module _ (t : Elems) (count : ℕ) (words words′ : List ℕ) (nested : Nested 
         long = omega (arith, given .long, nested .long);
         few = given .few;
         known = λ i h. rw (node i) (given .known i h);
+        rising = λ i j l h. rw (node i, node j) (given .rising i j l h);
         distinct = λ i j l h p q. given .distinct i j l h (sym (node i) ∙ p ∙ node j) (sym (rule i) ∙ q ∙ rule j);
       }
 

@@ -16,15 +16,15 @@ use Rattle.rules.specs.declared.numbering.Rule.{Rule}
 use Rattle.rules.specs.declared.numbering.Found.{Found}
 use Rattle.rules.specs.declared.numbering.Found.the-variants.{NoSuchRule, At}
 use Rattle.rules.specs.Numbering.{rules, ruleAt}
-use Rattle.resolving.specs.RulePaths.{sideAt}
+use Rattle.rule_paths.specs.RulePaths.{sideAt}
 use Rattle.captures.specs.Attempts.{Attempt, failed}
 use Rattle.matcher.specs.FileFacts.{moduleOf}
 use Rattle.matcher.specs.Tokens.{commaSheet}
 use Rattle.prepared.specs.Rules.{matcherFor}
 use Rattle.get_match.specs.Templates.{renders}
 use Rattle.get_match.specs.GetMatch.{tryMatch}
-use Rattle.match_node.specs.RuleMatch.{templateRenders, templateForm, calls}
-use Rattle.match_node.specs.MatchNode.{foundMatch}
+use Rattle.rule_match.specs.RuleMatch.{templateRenders, calls, foundMatch}
+use Rattle.preparing.specs.Forms.{templateForm}
 use Rattle.parses.specs.Parses.{parsesOf}
 use Rattle.candidates.specs.Candidates.{has}
 use Rattle.nester.specs.Matches.{Match, matches}

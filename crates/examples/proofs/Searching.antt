@@ -11,16 +11,16 @@ use Rattle.fragments.specs.Pairs.{Pair, pairAt, treeOf}
 use Rattle.rules.specs.declared.forms.TemplateTree.the-variants.{Absent}
 use Rattle.rules.specs.declared.numbering.Rule.{Rule}
 use Rattle.rules.specs.declared.numbering.Found.the-variants.{At}
-use Rattle.resolving.specs.RulePaths.{sideAt}
+use Rattle.rule_paths.specs.RulePaths.{sideAt}
 use Rattle.captures.specs.Attempts.{Attempt}
 use Rattle.matcher.specs.Tokens.{commaSheet}
 use Rattle.prepared.specs.Rules.{matcherFor}
-use Rattle.get_match.specs.declared.Restriction.{Restriction}
+use Rattle.checks.specs.declared.Restriction.{Restriction}
 use Rattle.get_match.specs.GetMatch.{tryMatch}
 use Rattle.answers.specs.Answers.{answerOf, bytesOf}
-use Rattle.checks.specs.Given.{File}
-use Rattle.match_node.specs.RuleMatch.{templateRenders, calls, ruleMatch}
-use Rattle.match_node.specs.MatchNode.{foundRule, matchOutcome}
+use Rattle.checks.specs.Given.{File, foundRule}
+use Rattle.rule_match.specs.RuleMatch.{templateRenders, calls, ruleMatch}
+use Rattle.match_node.specs.MatchNode.{matchOutcome}
 use Rattle.examples.specs.Table.{NodeMatched, answered, Search, rulesIn, anywhere, searched}
 use Rattle.examples.proofs.Decoding.{decodedTree, tree-is}
 

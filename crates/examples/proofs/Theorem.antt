@@ -21,14 +21,13 @@ use Rattle.rules.specs.Numbering.{rulesFrom, ruleAt}
 use Rattle.paths.specs.Names.{containsTypeArguments, containsPlaceholder}
 use Rattle.paths.specs.Steps.{step}
 use Rattle.paths.specs.Resolved.{isUnresolved, resolvedPaths, claims, lastNote}
-use Rattle.resolving.specs.RulePaths.{pairFails}
+use Rattle.rule_paths.specs.RulePaths.{pairFails}
 use Rattle.siblings.specs.Siblings.{skipTokens}
 use Rattle.captures.specs.Attempts.{andThen, comments}
 use Rattle.captures.specs.Effects.{recorded}
 use Rattle.matcher.specs.FileFacts.{derefsFrom}
 use Rattle.prepared.specs.Placeholders.{allHold, constraintsOf}
-use Rattle.matching.specs.Matching.{matchNode, matchByKind, matchSequences, matchOpt, matchPath, matchSegments}
-use Rattle.matching.specs.Matching.{matchMethodCall, matchReceiver, matchArguments}
+use Rattle.matching.specs.Matching.{matchNode, matchByKind, matchSequences, matchOpt, matchPath, matchSegments, matchMethodCall, matchReceiver, matchArguments}
 use Rattle.get_match.specs.Templates.{rendersBelow}
 use Rattle.candidates.specs.Candidates.{candidatesOf, has, anyBad, isTwice, each}
 use Rattle.parses.specs.Ranges.{rangesOf, areRanges, isAmong}
@@ -43,9 +42,7 @@ use Rattle.rendering.specs.Events.{concat}
 use Rattle.rendering.specs.Texts.{bindingAt, partsOf}
 use Rattle.rendering.specs.Traces.{_then_, tracesOf, matchTrace, filledTrace}
 use Rattle.edits.specs.Traces.{listTrace}
-use Rattle.examples.specs.Table.{Example, answered, search-H, search-J, replacement-I, job-I, replacement-K, job-K}
-use Rattle.examples.specs.Table.{replacement-M, replacement-M-old, job-M, digit, placeholderOf, replacement-ranges, job-ranges}
-use Rattle.examples.specs.Table.{replacement-rules, job-rules, parseOf, rangeAt, replacement-nested, job-nested, examples}
+use Rattle.examples.specs.Table.{Example, answered, search-H, search-J, replacement-I, job-I, replacement-K, job-K, replacement-M, replacement-M-old, job-M, digit, placeholderOf, replacement-ranges, job-ranges, replacement-rules, job-rules, parseOf, rangeAt, replacement-nested, job-nested, examples}
 use Rattle.examples.proofs.Decoding.{tree-is}
 use Rattle.examples.proofs.Searching.{searched-by}
 use Rattle.examples.proofs.Jobs.{rule, done-by}

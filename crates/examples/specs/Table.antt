@@ -12,7 +12,7 @@ use Rattle.words.specs.Texts.{standInPrefix}
 use Rattle.words.specs.Buffer.{usedOf}
 use Rattle.parsing.specs.Reading.{Reading, read, refused, placeholder, reading}
 use Rattle.captures.specs.Effects.{unbound}
-use Rattle.get_match.specs.declared.Restriction.{Restriction}
+use Rattle.checks.specs.declared.Restriction.{Restriction}
 use Rattle.answers.specs.declared.Case.the-variants.{Matched}
 use Rattle.answers.specs.declared.NodeMatch.{NodeMatch}
 use Rattle.checks.specs.Given.{File, fileOf, Rules, rulesOf}

@@ -1,4 +1,1 @@
-pub mod CandidateLaws
-pub mod TableLaws
-pub mod NodeLaws
-pub mod RuleLaws
+mod RuleLaws

@@ -14,19 +14,17 @@ use Rattle.rules.specs.declared.numbering.Found.the-variants.{At}
 use Rattle.captures.specs.Attempts.{Attempt}
 use Rattle.matcher.specs.declared.marks.Context.{Context}
 use Rattle.matcher.specs.Matcher.{matcherOf}
-use Rattle.get_match.specs.declared.Restriction.{Restriction}
+use Rattle.checks.specs.declared.Restriction.{Restriction}
 use Rattle.get_match.specs.GetMatch.{tryMatch}
-use Rattle.checks.specs.Given.{File, Rules, fileOf}
-use Rattle.match_node.specs.RuleMatch.{templateRenders, calls, ruleMatch}
-use Rattle.match_node.specs.MatchNode.{foundRule}
-use Rattle.match_node.specs.Ready.{Ready}
-use Rattle.match_node.proofs.ReadyLaws.{attempt-is}
+use Rattle.checks.specs.Given.{File, Rules, fileOf, foundRule}
+use Rattle.rule_match.specs.RuleMatch.{templateRenders, calls, ruleMatch, attemptOf}
+use Rattle.preparing.specs.Ready.{Ready}
+use Rattle.rule_match.proofs.MatchLaws.{attempt-is}
 use Rattle.candidates.specs.Candidates.{Candidate}
-use Rattle.gathering.specs.Gathered.{attemptOf}
-use Rattle.finding.specs.WalkCandidates.{nodesOf, walkCandidates, accepted}
-use Rattle.finding.specs.Finds.{Laid, Finds}
-use Rattle.finding.proofs.TableLaws.{words-none}
-use Rattle.finding.proofs.CandidateLaws.{below-rule, walk-none, walk-more, walk-up}
+use Rattle.walk_nodes.specs.WalkCandidates.{nodesOf, walkCandidates, accepted}
+use Rattle.walk_nodes.specs.Finds.{Laid, Finds}
+use Rattle.walk_nodes.proofs.TableLaws.{words-none}
+use Rattle.walk_nodes.proofs.CandidateLaws.{below-rule, walk-none, walk-more, walk-up}
 
 -- by the parts that `get_match` has, and by the rule
 module _ (p : Pair) (rule : Rule) (text words facts : List ℕ) (range : Restriction) where

@@ -1,24 +1,23 @@
 -- Rows and links gathered key by key: what is told stays told, and what is not of a rule stays as it is.
 -- Assumes nothing.
 use mathlib.Core.Path.{_≡_, refl, _∙_}
-use mathlib.Core.List.{List, [], _∷_}
-use Prim.Native.Nat.{ℕ, zero, suc, _+_, _*_, _/_, _%_, _<_}
+use mathlib.Core.List.{List}
+use Prim.Native.Nat.{ℕ, _+_, _*_, _/_, _%_, _<_}
 use native.Mathlib.Omega.{arith}
 use lib.ListN.{length, getD}
 use Rattle.words.proofs.TestLaws.{same-or, low-or}
 use Rattle.captures.specs.Attempts.{Attempt, failed, matched}
 use Rattle.fragments.specs.Pairs.{pairAt}
 use Rattle.rules.specs.declared.numbering.Rule.{Rule}
-use Rattle.rules.specs.declared.numbering.Found.the-variants.{NoSuchRule, At}
-use Rattle.rules.specs.Numbering.{ruleAt}
-use Rattle.get_match.specs.declared.Restriction.{Restriction}
-use Rattle.checks.specs.Given.{File, Rules}
-use Rattle.match_node.specs.RuleMatch.{ruleMatch}
-use Rattle.match_node.specs.MatchNode.{foundRule}
-use Rattle.gathering.specs.Told.{StateOf, RowOf, LinkOf, Told}
-use Rattle.gathering.specs.Gathered.{SamePart, SameBut, Same, Gathers, attemptOf}
-use Rattle.gathering.proofs.TableLaws.{part-before, part-behind, part-then}
-use Rattle.gathering.proofs.RowLaws.{binding-kept}
+use Rattle.rules.specs.declared.numbering.Found.the-variants.{At}
+use Rattle.checks.specs.declared.Restriction.{Restriction}
+use Rattle.checks.specs.Given.{File, Rules, foundRule}
+use Rattle.rule_match.specs.RuleMatch.{ruleMatch, attemptOf}
+use Rattle.match_rows.specs.Told.{StateOf, RowOf, LinkOf, Told}
+use Rattle.match_rows.specs.Parts.{SamePart, SameBut}
+use Rattle.gathering.specs.Gathered.{Same, Gathers}
+use Rattle.match_rows.proofs.TableLaws.{part-before, part-behind, part-then}
+use Rattle.match_rows.proofs.RowLaws.{binding-kept}
 
 -- ---- a row and a link that are the same tell the same
 
@@ -104,14 +103,6 @@ module _ (number : ℕ) (attempt : ℕ → ℕ → Attempt) (modules : ℕ → �
   told-more r′ l′ g below i h k =
       same-or (getD keys i 0 % 16) number (λ e. g .told i h e)
       (λ d. told-kept attempt modules keys r l r′ l′ i (g .others i d) (below i h (omega arith)))
-
--- ---- the rule of a number
-
-pub rule-there : (l : List Rule) (number : ℕ) → number < length l → ruleAt l number ≡ NoSuchRule → ⊥
-unfolding ruleAt
-rule-there [] number h e = omega arith
-rule-there (r ∷ l) zero h e = let z : _≡_ {A = ℕ} 0 1 = cc in omega arith
-rule-there (r ∷ l) (suc number) h e = rule-there l number (omega arith) e
 
 -- the attempts of a number are those of the rule that was found
 module _ (q : Rules) (f : File) (range : Restriction) (number : ℕ) (rule : Rule) (found : foundRule q number ≡ At rule) where

@@ -21,15 +21,14 @@ use Rattle.captures.specs.declared.Binding.{Binding}
 use Rattle.captures.specs.declared.State.{State}
 use Rattle.captures.specs.Attempts.{Event, Bound, Noted, Attempt, failed, matched, commentsOf}
 use Rattle.captures.specs.Effects.{unbound, nothing, recordedOne, recorded}
-use Rattle.checks.specs.Given.{File}
-use Rattle.match_node.specs.MatchNode.{isNodeOf}
+use Rattle.checks.specs.Given.{File, isNodeOf}
 use Rattle.candidates.specs.Candidates.{Candidate, each, has, isNamed, anyBad, isTwice, keyOf, keysOf}
 use Rattle.candidates.proofs.CandidateLaws.{named-low}
 use Rattle.candidates.proofs.EachLaws.{each-same}
 use Rattle.candidates.proofs.SortedLaws.{sorted-keys}
 use Rattle.nester.specs.Matches.{Match, matchOf, byElement}
 use Rattle.nester.specs.Rows.{matchedIn, matchesIn}
-use Rattle.gathering.specs.Told.{RowOf, Told}
+use Rattle.match_rows.specs.Told.{RowOf, Told}
 use Rattle.gathering.specs.Gathered.{AreNodes, AreBelow}
 
 -- ---- keys name nodes and rules

@@ -1,28 +1,17 @@
 -- Rows and links that are gathered: those of the keys of one rule, and those of all keys. A key is node times 16 and rule.
 -- Assumes nothing.
-use Prim.Native.Nat.{ℕ, _+_, _*_, _/_, _%_, _<_, _≤_}
+use Prim.Native.Nat.{ℕ, _*_, _/_, _%_, _<_, _≤_}
 use mathlib.Core.Path.{_≡_}
 use mathlib.Core.Bool.{true}
 use mathlib.Core.List.{List}
 use lib.ListN.{length, getD}
 use Rattle.captures.specs.Attempts.{Attempt}
 use Rattle.matcher.specs.FileFacts.{moduleOf}
-use Rattle.get_match.specs.declared.Restriction.{Restriction}
-use Rattle.checks.specs.Given.{File, Rules}
-use Rattle.match_node.specs.MatchNode.{foundRule, isNodeOf, foundMatch}
-use Rattle.gathering.specs.Told.{Told}
-
--- ---- parts of tables
-
--- n words from a place on are the same
-abbrev pub SamePart : ℕ → ℕ → List ℕ → List ℕ → Type 0
-SamePart from n l l′ = (k : ℕ) → k < n → getD l′ (from + k) 0 ≡ getD l (from + k) 0
-
--- all words but n from a place on are the same
-pub record SameBut (from n : ℕ) (l l′ : List ℕ) : Type 0 where
-  pub lengths : length l′ ≡ length l
-  pub before : (at : ℕ) → at < from → getD l′ at 0 ≡ getD l at 0
-  pub behind : (at : ℕ) → from + n ≤ at → getD l′ at 0 ≡ getD l at 0
+use Rattle.checks.specs.declared.Restriction.{Restriction}
+use Rattle.checks.specs.Given.{File, Rules, isNodeOf}
+use Rattle.rule_match.specs.RuleMatch.{attemptOf}
+use Rattle.match_rows.specs.Told.{Told}
+use Rattle.match_rows.specs.Parts.{SamePart}
 
 -- row and link i are the same
 abbrev pub Same : List ℕ → List ℕ → List ℕ → List ℕ → ℕ → Type 0
@@ -48,10 +37,6 @@ AreBelow rules keys = (i : ℕ) → i < length keys → getD keys i 0 % 16 < rul
 -- there is a row and a link for each
 abbrev pub HaveRoom : List ℕ → List ℕ → List ℕ → Type 0
 HaveRoom keys rows links = (length keys * 44 ≤ length rows) × (3 * length keys ≤ length links)
-
--- the attempt of a candidate
-abbrev pub attemptOf : Rules → File → Restriction → ℕ → ℕ → Attempt
-attemptOf q f range n r = foundMatch q f (foundRule q r) range n
 
 abbrev pub Gathered : Rules → File → Restriction → List ℕ → List ℕ → List ℕ → Type 0
 Gathered q f range keys rows links = (i : ℕ) → i < length keys → Told (attemptOf q f range) (moduleOf (f .facts)) keys rows links i

@@ -9,11 +9,11 @@ use native.Mathlib.Omega.{arith}
 use lib.ListN.{getD}
 use Rattle.words.proofs.TestLaws.{same-or, and-of}
 use Rattle.syntax.specs.Trees.{Elems}
-use Rattle.paths.specs.Steps.{Side, flagsAt}
+use Rattle.paths.specs.Steps.{Side, flagsAt, isDefinition}
 use Rattle.paths.specs.Resolved.{resolvedPaths, lastNote}
 use Rattle.paths.specs.Tables.{TablesOf}
 use Rattle.matcher.specs.FileFacts.{hasFact}
-use Rattle.get_match.specs.Templates.{isDefinition, rendersAt, rendersBelow}
+use Rattle.get_match.specs.Templates.{rendersAt, rendersBelow}
 
 -- the number noted is one more than the place of a path's fact
 pub noted-path : (facts : List ℕ) («module» n e : ℕ) → (n ≡ 0 → ⊥)

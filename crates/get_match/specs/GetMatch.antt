@@ -9,7 +9,7 @@ use Rattle.syntax.specs.Accessors.{rangeOf}
 use Rattle.captures.specs.Attempts.{Attempt, andThen, given}
 use Rattle.matcher.specs.Matcher.{Matcher}
 use Rattle.matching.specs.Matching.{matchNode}
-use Rattle.get_match.specs.declared.Restriction.{Restriction}
+use Rattle.checks.specs.declared.Restriction.{Restriction}
 
 -- `restrict_range`, where one is given: both ends may be the node's own
 abbrev pub isWithin : Restriction → Elems → Bool

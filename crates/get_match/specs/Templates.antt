@@ -1,18 +1,13 @@
 -- `render_template_paths` of docs/src/src/matching.rs: the matched node has a module, and every resolved path of the template that refers to a
 -- definition has a text for it.
 -- Assumes nothing.
-use Prim.Native.Nat.{ℕ, zero, suc, _/_, _%_}
+use Prim.Native.Nat.{ℕ, zero, suc}
 use mathlib.Core.Bool.{Bool, true, not, _&&_, _||_}
 use mathlib.Core.List.{List}
-use lib.Dec.{eqb}
 use Rattle.syntax.specs.Trees.{Elems}
-use Rattle.paths.specs.Steps.{Side, flagsAt}
+use Rattle.paths.specs.Steps.{Side, isDefinition, flagsAt}
 use Rattle.paths.specs.Resolved.{resolvedPaths, lastNote}
 use Rattle.matcher.specs.FileFacts.{hasFact, factValue}
-
--- flags: "2 a definition"
-abbrev pub isDefinition : ℕ → Bool
-isDefinition flags = eqb (flags / 2 % 2) 1
 
 -- an element for which nothing, or the place of a path's fact, was noted; "7 template path, module, text start, text length"
 abbrev pub rendersAt : List ℕ → ℕ → ℕ → ℕ → Bool

@@ -2,6 +2,7 @@
 pub mod templates; // templates.rt: whether the template's paths can be rendered for a module
 
 use captures::Answer;
+use checks::Restriction;
 use first_phase::checking;
 use matcher::marks::Context;
 use matching::attempt_match;
@@ -22,13 +23,6 @@ ghost use Rattle.matcher.specs.Matcher.{matcherOf};
 ghost use Rattle.matcher.specs.FileFacts.{FileOf};
 ghost use Rattle.get_match.specs.Templates.{renders};
 ghost use Rattle.get_match.specs.GetMatch.{isWithin, tryMatch};
-
-// The range that matches are restricted to, where one is given.
-pub struct Restriction {
-    pub given: bool,
-    pub start: usize,
-    pub end: usize,
-}
 
 // What is asked: the node, the range, whether the rule has a template, and how many elements that has.
 pub struct Asked {

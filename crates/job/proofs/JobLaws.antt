@@ -10,7 +10,7 @@ use Rattle.errors.specs.declared.Refusal.{Refusal}
 use Rattle.words.specs.Buffer.{usedOf, filled}
 use Rattle.edits.specs.declared.Edited.the-variants as edited
 use Rattle.edits.specs.Answers.{answerOf, bytesOf}
-use Rattle.match_node.proofs.AskedLaws.{used-all, part-filled}
+use Rattle.words.proofs.BufferLaws.{used-all, part-filled}
 use Rattle.job_checks.specs.Checks.{Job, jobOutcome}
 use Rattle.job_answers.specs.Answers.{listIn, answerAfter, bytesAfter, jobAnswer, jobBytes, bufferAfter}
 

@@ -1,15 +1,15 @@
 // The operation "A job": candidates are matched, nested and rendered, and the edit list is written.
+use checks::Restriction;
 use edits::Edited;
 use errors::Outcome;
-use get_match::Restriction;
 use words::buffer;
 ghost use mathlib.Core.Path.{_≡_};
 ghost use Prim.Native.Nat.{_*_, _/_, _≤_};
 ghost use lib.ListN.{length};
 ghost use Rattle.words.specs.Buffer.{usedOf, filled};
 ghost use Rattle.checks.specs.Given.{fileOf};
-ghost use Rattle.resolving.specs.Needs.{AllRoomy};
-ghost use Rattle.match_node.specs.Ready.{MarksRoomy};
+ghost use Rattle.rule_paths.specs.Needs.{AllRoomy};
+ghost use Rattle.preparing.specs.Ready.{MarksRoomy};
 ghost use Rattle.candidates.specs.Candidates.{candidateCount};
 ghost use Rattle.render_replace.specs.Worlds.{Lent};
 ghost use Rattle.job_checks.specs.Checks.{jobOf};

@@ -9,7 +9,7 @@ use lib.ListN.{length}
 use Rattle.errors.specs.declared.Outcome.{Outcome}
 use Rattle.errors.specs.declared.Outcome.the-variants.{Accepted, Refused}
 use Rattle.words.specs.Buffer.{usedOf}
-use Rattle.match_node.proofs.AskedLaws.{used-small}
+use Rattle.words.proofs.BufferLaws.{used-small}
 use Rattle.candidates.specs.Candidates.{has}
 use Rattle.nester.specs.Collections.{Collections}
 use Rattle.nester.proofs.Kept.{collections, kept-is}

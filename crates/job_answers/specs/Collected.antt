@@ -5,7 +5,8 @@ use Prim.Native.Nat.{ℕ}
 use mathlib.Core.List.{List}
 use Rattle.captures.specs.Attempts.{Attempt}
 use Rattle.matcher.specs.FileFacts.{moduleOf}
-use Rattle.match_node.specs.MatchNode.{foundRule, foundMatch}
+use Rattle.checks.specs.Given.{foundRule}
+use Rattle.rule_match.specs.RuleMatch.{foundMatch}
 use Rattle.parses.specs.Parses.{parsesOf}
 use Rattle.candidates.specs.Candidates.{has}
 use Rattle.nester.specs.Matches.{Match, matches}

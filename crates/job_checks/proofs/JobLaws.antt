@@ -10,8 +10,7 @@ use borrow.Author.Tests.{ltb-false}
 use Rattle.errors.specs.declared.Outcome.{Outcome}
 use Rattle.errors.specs.declared.Outcome.the-variants.{Accepted, Refused}
 use Rattle.errors.specs.declared.Refusal.{Refusal}
-use Rattle.errors.specs.declared.Refusal.the-variants.{UnresolvedPath, TooManyRulesOrCandidates, NoSuchCandidate}
-use Rattle.errors.specs.declared.Refusal.the-variants.{RepeatedCandidate, NoTemplate}
+use Rattle.errors.specs.declared.Refusal.the-variants.{UnresolvedPath, TooManyRulesOrCandidates, NoSuchCandidate, RepeatedCandidate, NoTemplate}
 use Rattle.errors.specs.Refusals.{Check, firstOf, inTurn}
 use Rattle.errors.proofs.Laws.{first-pass, first-stop, turn-passes, turn-refuses, turn-both, turn-last}
 use Rattle.words.proofs.TestLaws.{or-neither}
@@ -23,17 +22,15 @@ use Rattle.fragments.specs.Pairs.{pairs}
 use Rattle.rules.specs.declared.stages.Stage.the-variants.{Forms}
 use Rattle.rules.specs.Forms.{any}
 use Rattle.rules.specs.Numbering.{rules}
-use Rattle.resolving.specs.RulePaths.{pairFails, pathsOutcome}
-use Rattle.resolving.proofs.FailLaws.{not-true, not-false}
-use Rattle.checks.specs.Given.{File, Rules, stage, givenOutcome}
-use Rattle.match_node.specs.MatchNode.{isRange}
-use Rattle.match_node.proofs.AskedLaws.{trees-accepted}
+use Rattle.rule_paths.specs.RulePaths.{pairFails, pathsOutcome}
+use Rattle.rule_paths.proofs.FailLaws.{not-true, not-false}
+use Rattle.checks.specs.Given.{File, Rules, stage, givenOutcome, isRange}
+use Rattle.checks.proofs.GivenLaws.{trees-accepted}
 use Rattle.candidates.specs.Candidates.{candidatesOf, candidateCount, anyBad, isTwice, keysOf, hasEqualNeighbours}
 use Rattle.candidates.proofs.CandidateLaws.{length-candidates, length-keys, named-low}
 use Rattle.candidates.proofs.KeyLaws.{twice-neighbours}
 use Rattle.parses.specs.Parses.{isParseList, parsesOutcome}
-use Rattle.job_checks.specs.Checks.{Job, rulesIn, pairsIn, treeIn, candidatesIn, ruleCount, anyWithoutTemplate}
-use Rattle.job_checks.specs.Checks.{jobChecks, jobOutcome}
+use Rattle.job_checks.specs.Checks.{Job, rulesIn, pairsIn, treeIn, candidatesIn, ruleCount, anyWithoutTemplate, jobChecks, jobOutcome}
 use Rattle.job_checks.specs.Checked.{Checked}
 use Rattle.job_checks.proofs.CheckLaws.{first-both, turns-pass, turns-refuse}
 

@@ -19,7 +19,7 @@ use Rattle.rules.specs.Forms.{templateTree, any, hasRule, hasPathRule, isPathRu
 use Rattle.rules.specs.Numbering.{ruleOf, rulesFrom}
 use Rattle.rules.specs.Stages.{formsOutcome, stageOutcome}
 use Rattle.rules.proofs.FormLaws.{left-paths, left-rules}
-use Rattle.resolving.proofs.FailLaws.{not-false}
+use Rattle.rule_paths.proofs.FailLaws.{not-false}
 use Rattle.job_checks.specs.Checks.{hasNoTemplate, anyWithoutTemplate}
 use Rattle.job_checks.proofs.CheckLaws.{first-both}
 

@@ -13,8 +13,8 @@ use Rattle.rules.specs.declared.stages.Stage.the-variants.{TreesWithFacts}
 use Rattle.rules.specs.Forms.{any}
 use Rattle.rules.specs.Numbering.{rules}
 use Rattle.rules.specs.Stages.{stageOutcome}
-use Rattle.resolving.specs.RulePaths.{pairFails}
-use Rattle.match_node.specs.MatchNode.{isRange}
+use Rattle.rule_paths.specs.RulePaths.{pairFails}
+use Rattle.checks.specs.Given.{isRange}
 use Rattle.parses.specs.Parses.{isParseList}
 use Rattle.candidates.specs.Candidates.{candidateCount, anyBad, isTwice, keysOf}
 use Rattle.job_checks.specs.Checks.{Job, pairsIn, treeIn, candidatesIn, ruleCount, anyWithoutTemplate}

@@ -16,10 +16,9 @@ use Rattle.rules.specs.declared.forms.TemplateTree.the-variants.{Absent, Own, S
 use Rattle.rules.specs.declared.numbering.Rule.{Rule}
 use Rattle.rules.specs.Forms.{any}
 use Rattle.rules.specs.Numbering.{rules}
-use Rattle.resolving.specs.RulePaths.{pathsOutcome}
-use Rattle.get_match.specs.declared.Restriction.{Restriction}
-use Rattle.checks.specs.Given.{File, fileOf, Rules, rulesOf, givenOutcome}
-use Rattle.match_node.specs.MatchNode.{isRange}
+use Rattle.rule_paths.specs.RulePaths.{pathsOutcome}
+use Rattle.checks.specs.declared.Restriction.{Restriction}
+use Rattle.checks.specs.Given.{File, fileOf, Rules, rulesOf, givenOutcome, isRange}
 use Rattle.parses.specs.Parses.{parsesOutcome}
 use Rattle.candidates.specs.Candidates.{Candidate, candidatesOf, candidateCount, anyBad, isTwice}
 

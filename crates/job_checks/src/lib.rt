@@ -1,10 +1,9 @@
 // The checks of a job, in document 01's order: 1 to 15, 18 to 21, 17, 22, 24 to 28. The tables are lent.
+use checks::Restriction;
 use checks::check_given;
 use errors::Outcome;
 use errors::Refusal;
 use fragments::pairs;
-use get_match::Restriction;
-use resolving::rule_paths;
 use rules::numbering;
 ghost use mathlib.Core.Path.{_≡_};
 ghost use mathlib.Core.Bool.{true, not};
@@ -20,8 +19,8 @@ ghost use Rattle.fragments.specs.Pairs.{pairs};
 ghost use Rattle.rules.specs.declared.stages.Stage.the-variants.{Forms};
 ghost use Rattle.rules.specs.Numbering.{rules};
 ghost use Rattle.rules.specs.Stages.{stageOutcome};
-ghost use Rattle.resolving.specs.RulePaths.{pathsOutcome};
-ghost use Rattle.resolving.specs.Needs.{AllRoomy};
+ghost use Rattle.rule_paths.specs.RulePaths.{pathsOutcome};
+ghost use Rattle.rule_paths.specs.Needs.{AllRoomy};
 ghost use Rattle.checks.specs.Given.{fileOf, rulesOf, givenOutcome};
 ghost use Rattle.candidates.specs.Candidates.{candidatesOf, candidateCount, keysOf, hasEqualNeighbours};
 ghost use Rattle.parses.specs.Parses.{isParseList, parsesOutcome};

@@ -1,12 +1,12 @@
 // The edit list of a job that passed its checks: its candidates are nested, and what they match is written.
+use checks::Restriction;
 use edits::Edited;
-use get_match::Restriction;
 ghost use mathlib.Core.Path.{_≡_};
 ghost use Prim.Native.Nat.{_*_, _≤_};
 ghost use lib.ListN.{length};
 ghost use Rattle.checks.specs.Given.{fileOf};
-ghost use Rattle.resolving.specs.Needs.{AllRoomy};
-ghost use Rattle.match_node.specs.Ready.{MarksRoomy};
+ghost use Rattle.rule_paths.specs.Needs.{AllRoomy};
+ghost use Rattle.preparing.specs.Ready.{MarksRoomy};
 ghost use Rattle.candidates.specs.Candidates.{candidateCount};
 ghost use Rattle.render_replace.specs.Worlds.{Lent};
 ghost use Rattle.job_checks.specs.Checks.{jobOf};

@@ -23,10 +23,10 @@ use Rattle.collections.specs.Worlds.{outerItems}
 use Rattle.collections.specs.Links.{linkWord, Linked}
 use Rattle.collections.proofs.Theorem.{nested-held, job-list}
 use Rattle.collections.proofs.LinkLaws.{linked-before}
-use Rattle.gathering.specs.Told.{StateOf, hasComments, Told}
+use Rattle.match_rows.specs.Told.{StateOf, hasComments, Told}
 use Rattle.gathering.specs.Gathered.{Gathered}
 use Rattle.gathering.proofs.MatchLaws.{shown-matches}
-use Rattle.match_node.specs.MatchNode.{foundRule}
+use Rattle.checks.specs.Given.{foundRule}
 use Rattle.render_replace.specs.Worlds.{Shown}
 use Rattle.job_checks.specs.Checks.{Job, rulesIn, treeIn, candidatesIn, ruleCount}
 use Rattle.job_checks.specs.Checked.{Checked}
@@ -75,6 +75,7 @@ module _ {j : Job} {index keys : List ℕ} (checked : Checked j index keys) wher
       known = λ k h.
           let low = node-below (j .file .words) (key k / 16) (checked .formed) (keys-name checked .0 k (in-keys k h)) in
           rw (told k h .0 .node) (omega (arith, tree-size (j .file .words) (checked .formed)));
+      rising = λ a b p q. omega (arith, keys-apart checked a b p q, told a (omega arith) .0 .node, told b q .0 .node);
       distinct = λ a b p q same-node same-rule.
           let r = told a (omega arith) .0 in
           omega (arith, keys-apart checked a b p q, r .node, r .rule, told b q .0 .node, told b q .0 .rule);

@@ -20,20 +20,19 @@ use Rattle.rules.specs.declared.stages.Stage.the-variants.{TreesWithFacts}
 use Rattle.rules.specs.Forms.{templateTree, isThere, hasPath, hasPathRule, any}
 use Rattle.rules.specs.Numbering.{rules, ruleAt}
 use Rattle.rules.specs.Stages.{stageOutcome}
-use Rattle.resolving.specs.RulePaths.{varsOf, sideAt, pairFails}
-use Rattle.resolving.specs.Needs.{Left, Passed}
-use Rattle.resolving.proofs.NeedLaws.{tree-formed}
-use Rattle.resolving.proofs.AskLaws.{left-rule, passed-rule}
-use Rattle.checks.specs.Given.{Rules}
-use Rattle.match_node.specs.RuleMatch.{rootOf, templateForm}
-use Rattle.match_node.specs.MatchNode.{foundRule}
-use Rattle.match_node.proofs.ReadyLaws.{template-there}
+use Rattle.rule_paths.specs.RulePaths.{varsOf, sideAt, pairFails}
+use Rattle.rule_paths.specs.Needs.{Left, Passed}
+use Rattle.rule_paths.proofs.NeedLaws.{tree-formed}
+use Rattle.rule_paths.proofs.LeftLaws.{left-rule, passed-rule}
+use Rattle.checks.specs.Given.{Rules, foundRule}
+use Rattle.preparing.specs.Forms.{rootOf, templateForm}
+use Rattle.preparing.proofs.ReadyLaws.{template-there}
 use Rattle.templates.specs.Pieces.{Piece, text, path, hole, pieces, AllFit}
 use Rattle.templates.proofs.WithinLaws.{pieces-fit}
 use Rattle.collections.specs.Worlds.{LowSlots}
 use Rattle.readying.specs.Templates.{fragmentOf, templateFragments, ruleFragments}
 use Rattle.readying.specs.Ready.{ruleForm}
-use Rattle.gathering.proofs.GatherLaws.{rule-there}
+use Rattle.rules.proofs.RuleLaws.{rule-there}
 use Rattle.job_checks.specs.Checks.{hasNoTemplate, anyWithoutTemplate}
 
 -- ---- the form of a rule's template

@@ -1,12 +1,12 @@
 // A job's rows: which of its candidates match, and what becomes of each match.
-use gathering::gathering::gather_all;
-use get_match::Restriction;
+use checks::Restriction;
+use gathering::gather_all;
 use rules::numbering;
 ghost use Prim.Native.Nat.{_*_, _≤_};
 ghost use lib.ListN.{length};
-ghost use Rattle.resolving.specs.Needs.{AllRoomy};
+ghost use Rattle.rule_paths.specs.Needs.{AllRoomy};
 ghost use Rattle.checks.specs.Given.{fileOf};
-ghost use Rattle.match_node.specs.Ready.{MarksRoomy};
+ghost use Rattle.preparing.specs.Ready.{MarksRoomy};
 ghost use Rattle.candidates.specs.Candidates.{candidateCount};
 ghost use Rattle.job_checks.specs.Checks.{jobOf};
 ghost use Rattle.job_checks.specs.Checked.{Checked};

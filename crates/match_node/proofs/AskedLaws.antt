@@ -1,35 +1,31 @@
 -- What is asked: a node of the file and a range, the stages before the match, and the used part of the buffer.
 -- Assumes nothing.
-use mathlib.Core.Path.{_≡_, refl, sym, ap, _∙_}
-use mathlib.Core.Bool.{Bool, true, false, not, cond, _&&_}
-use mathlib.Core.List.{List, [], _++_, map, append-nil}
+use mathlib.Core.Path.{_≡_, refl, sym, _∙_}
+use mathlib.Core.Bool.{Bool, true, false, not, _&&_}
+use mathlib.Core.List.{List, [], _++_, map}
 use Prim.Native.Nat.{ℕ, _≤_}
 use native.Mathlib.Omega.{arith}
-use lib.Dec.{leb}
-use lib.ListN.{length, take, drop, drop-of-length-le}
-use lib.Seq.{length-take-le}
-use borrow.Author.Tests.{le-leb, leb-true}
+use lib.ListN.{length, take, drop}
 use Rattle.errors.specs.declared.Outcome.the-variants.{Accepted, Refused}
 use Rattle.errors.specs.declared.Refusal.{Refusal}
 use Rattle.errors.specs.declared.Refusal.the-variants.{UnresolvedPath, NoSuchNodeOrRule}
 use Rattle.errors.specs.Refusals.{firstOf}
-use Rattle.errors.proofs.Laws.{both-pass, turn-passes, turn-refuses, turn-both, turn-last}
-use Rattle.words.specs.Buffer.{usedOf, padded, filled}
-use Rattle.words.proofs.BufferLaws.{used-within}
+use Rattle.errors.proofs.Laws.{turn-passes, turn-refuses, turn-last}
+use Rattle.words.specs.Buffer.{usedOf}
+use Rattle.words.proofs.BufferLaws.{part-filled}
 use Rattle.syntax.specs.Checks.{WellFormed}
 use Rattle.syntax.proofs.Places.{tree-size, tree-none}
 use Rattle.fragments.specs.Pairs.{pairs, pairAt}
-use Rattle.rules.specs.declared.stages.Stage.the-variants.{TreesWithFacts}
 use Rattle.rules.specs.declared.numbering.Rule.{Rule}
 use Rattle.rules.specs.declared.numbering.Found.{Found}
 use Rattle.rules.specs.declared.numbering.Found.the-variants.{NoSuchRule, At}
 use Rattle.rules.specs.Forms.{any}
-use Rattle.resolving.specs.RulePaths.{pairFails, pathsOutcome}
-use Rattle.get_match.specs.declared.Restriction.{Restriction}
+use Rattle.rule_paths.specs.RulePaths.{pairFails, pathsOutcome}
+use Rattle.checks.specs.declared.Restriction.{Restriction}
 use Rattle.answers.specs.Answers.{refusedMatch, answerOf, bytesOf}
-use Rattle.checks.specs.Given.{File, Rules, fileOf, stage, givenOutcome}
-use Rattle.match_node.specs.RuleMatch.{ruleMatch}
-use Rattle.match_node.specs.MatchNode.{foundRule, isNodeOf, isRange, askedOutcome, matchOutcome, foundMatch, answerBy, bytesBy, bufferAfter}
+use Rattle.checks.specs.Given.{File, Rules, fileOf, givenOutcome, foundRule, isNodeOf, isRange}
+use Rattle.rule_match.specs.RuleMatch.{ruleMatch, foundMatch}
+use Rattle.match_node.specs.MatchNode.{askedOutcome, matchOutcome, answerBy, bytesBy, bufferAfter}
 
 -- ---- 23
 
@@ -67,9 +63,6 @@ module _ (q : Rules) (f : File) (range : Restriction) (node room : ℕ) (found :
 -- ---- the stages
 
 module _ (q : Rules) (f : File) where
-  pub trees-accepted : givenOutcome q f ≡ Accepted → stage TreesWithFacts q ≡ Accepted
-  trees-accepted h = both-pass _ _ (turn-both _ _ (turn-both _ _ (turn-both _ _ h .1) .1) .0) .0
-
   module _ (number : ℕ) (range : Restriction) (node : ℕ) where
     pub match-refused : (r : Refusal) → givenOutcome q f ≡ Refused r → matchOutcome q f number range node ≡ Refused r
     match-refused r h = turn-refuses _ _ r h
@@ -83,32 +76,6 @@ module _ (q : Rules) (f : File) where
     match-asked h g = turn-passes _ _ h ∙ turn-passes (pathsOutcome (pairs (q .directory) (q .words) (q .bytes))) _ (rw g) ∙ turn-last (askedOutcome (foundRule q number) f range node)
 
 -- ---- the used part of a buffer
-
-pub used-all : (n : ℕ) → n ≤ 1048576 → usedOf n ≡ n
-used-all n h = rw (le-leb n 1048576 h)
-
-used-by : (b : Bool) (n : ℕ) → leb n 1048576 ≡ b → cond b n 1048576 ≤ 1048576
-used-by true n h = omega (arith, leb-true n 1048576 h)
-used-by false n h = omega arith
-
-pub used-small : (n : ℕ) → usedOf n ≤ 1048576
-used-small n = used-by (leb n 1048576) n refl
-
--- filled by itself, with what is beyond it behind it
-pub used-part : (d bs : List ℕ) → filled (take (usedOf (length d)) d) bs ++ drop (usedOf (length d)) d ≡ filled d bs
-used-part d bs =
-    let u = usedOf (length d) in
-    let l : length (take u d) ≡ u = length-take-le u d (used-within (length d)) in
-    let z : length (take u d) ≤ u = omega (arith, l) in
-    rw (l, used-all u (used-small (length d)), drop-of-length-le (take u d) z, append-nil (padded u bs))
-
--- an operation that was made in the used part alone, its bytes by how many of these there are
-pub part-filled : (bs : ℕ → List ℕ) (d e : List ℕ) → let u = usedOf (length d) in e ≡ filled (take u d) (bs (usedOf (length (take u d))))
-    → e ++ drop u d ≡ filled d (bs u)
-part-filled bs d e h =
-    let u = usedOf (length d) in
-    let l : usedOf (length (take u d)) ≡ u = ap (λ (n : ℕ). usedOf n) (length-take-le u d (used-within (length d))) ∙ used-all u (used-small (length d)) in
-    ap (λ (x : List ℕ). x ++ drop u d) (h ∙ ap (λ (n : ℕ). filled (take u d) (bs n)) l) ∙ used-part d (bs u)
 
 pub buffer-part : (q : Rules) (f : File) (number : ℕ) (range : Restriction) (node : ℕ) (d e : List ℕ) → e ≡ bufferAfter q f number range node (take (usedOf (length d)) d)
     → e ++ drop (usedOf (length d)) d ≡ bufferAfter q f number range node d

@@ -1,3 +1,2 @@
 -- Laws of the definitions of specs/, for this crate and those above.
-pub mod ReadyLaws
 pub mod AskedLaws

@@ -1,3 +1,1 @@
-pub mod RuleMatch
 pub mod MatchNode
-pub mod Ready

@@ -2,44 +2,25 @@
 -- bindings in pattern order, and the buffer holds the texts of its noted comments in turn; 16 comes last, where these do not fit."
 -- Assumes nothing.
 use Prim.Native.Nat.{ℕ}
-use mathlib.Core.Bool.{Bool, true, false, not, _&&_}
+use mathlib.Core.Bool.{not, _&&_}
 use mathlib.Core.List.{List, [], _∷_}
-use lib.Dec.{ltb}
 use lib.ListN.{length}
 use Rattle.errors.specs.declared.Outcome.{Outcome}
 use Rattle.errors.specs.declared.Outcome.the-variants.{Accepted, Refused}
 use Rattle.errors.specs.declared.Refusal.the-variants.{NoSuchNodeOrRule}
 use Rattle.errors.specs.Refusals.{firstOf, inTurn}
 use Rattle.words.specs.Buffer.{usedOf, filled}
-use Rattle.syntax.specs.Trees.{tree}
-use Rattle.syntax.specs.Accessors.{elementAt, nodeIn}
-use Rattle.fragments.specs.Pairs.{pairs, pairAt}
+use Rattle.fragments.specs.Pairs.{pairs}
 use Rattle.rules.specs.declared.numbering.Found.{Found}
-use Rattle.rules.specs.declared.numbering.Found.the-variants.{NoSuchRule, At}
-use Rattle.rules.specs.Numbering.{rules, ruleAt}
-use Rattle.resolving.specs.RulePaths.{pathsOutcome}
-use Rattle.captures.specs.Attempts.{Attempt, failed}
-use Rattle.get_match.specs.declared.Restriction.{Restriction}
+use Rattle.rule_paths.specs.RulePaths.{pathsOutcome}
+use Rattle.captures.specs.Attempts.{Attempt}
+use Rattle.checks.specs.declared.Restriction.{Restriction}
 use Rattle.answers.specs.declared.NodeMatch.{NodeMatch}
 use Rattle.answers.specs.Answers.{refusedMatch, answerOf, bytesOf}
-use Rattle.checks.specs.Given.{File, Rules, givenOutcome}
-use Rattle.match_node.specs.RuleMatch.{ruleMatch}
-
--- the rule of a number
-abbrev pub foundRule : Rules → ℕ → Found
-foundRule q number = ruleAt (rules (pairs (q .directory) (q .words) (q .bytes))) number
-
-abbrev pub isFound : Found → Bool
-isFound NoSuchRule = false
-isFound (At r) = true
+use Rattle.checks.specs.Given.{File, Rules, givenOutcome, foundRule, isFound, isNodeOf, isRange}
+use Rattle.rule_match.specs.RuleMatch.{foundMatch}
 
 -- 23: "no such node or rule, or a range whose start is after its end"
-abbrev pub isNodeOf : File → ℕ → Bool
-isNodeOf f node = nodeIn 1 4095 (elementAt node (tree (f .words)))
-
-abbrev pub isRange : Restriction → Bool
-isRange range = not (range .given && ltb (range .end) (range .start))
-
 abbrev pub askedOutcome : Found → File → Restriction → ℕ → Outcome
 askedOutcome found f range node =
     firstOf (record { fails = not (isFound found && isNodeOf f node && isRange range); refusal = NoSuchNodeOrRule } ∷ [])
@@ -52,11 +33,6 @@ matchOutcome q f number range node =
     ∷ pathsOutcome (pairs (q .directory) (q .words) (q .bytes))
     ∷ askedOutcome (foundRule q number) f range node
     ∷ [])
-
--- the match of the rule that was found
-abbrev pub foundMatch : Rules → File → Found → Restriction → ℕ → Attempt
-foundMatch q f NoSuchRule range node = failed
-foundMatch q f (At r) range node = ruleMatch (pairAt (r .pair) (q .directory) (q .words) (q .bytes)) r f range node
 
 -- the attempt that is made where nothing is refused
 abbrev pub answerBy : Outcome → ℕ → Attempt → NodeMatch

@@ -7,7 +7,7 @@ use Prim.Native.Nat.{ℕ}
 use Rattle.words.proofs.TestLaws.{never, and-both}
 use Rattle.syntax.specs.Trees.{Elems, none, token, node}
 use Rattle.syntax.specs.Accessors.{rest, some, between}
-use Rattle.siblings.specs.Siblings.{isNode, isToken, isTrivia, skipTokens, skipTrivia}
+use Rattle.siblings.specs.Siblings.{isNode, isToken, isTrivia, skipTokens, skipTrivia, kindOf}
 use Rattle.siblings.proofs.SiblingLaws.{skip-here, skip-next, trivia-is-token}
 use Rattle.captures.specs.Attempts.{Attempt, matched, andThen, notesOf}
 use Rattle.captures.proofs.AttemptLaws.{then-nothing}
@@ -15,7 +15,6 @@ use Rattle.matcher.specs.Matcher.{Matcher, hasPlaceholderName}
 use Rattle.matcher.specs.declared.token_matching.Sheet.{Sheet}
 use Rattle.matcher.specs.Tokens.{isExtra, pastSeparator, isSameToken, matchesToken, afterToken, skips}
 use Rattle.matcher.proofs.TokenLaws.{same-token-is}
-use Rattle.siblings.specs.Siblings.{kindOf}
 use Rattle.record_fields.specs.Fields.{patternName}
 use Rattle.ordered_fields.specs.Order.{next, past, partner, isSame}
 use Rattle.matching.specs.StartingOver.{fieldByName, byName, notesBeside, again}

@@ -10,5 +10,6 @@ pub mod Alike
 pub mod Orders
 pub mod RowLaws
 pub mod RowSteps
+mod LastLaws
 pub mod FateLaws
 mod Examples

@@ -1,7 +1,7 @@
 -- The rows as words: what the loops over captured ranges and over rows have passed, and what a step leaves.
 -- Assumes nothing.
 use Prim.Native.Nat.{ℕ, zero, suc, _+_, _-_, _*_, _≤_, _<_}
-use mathlib.Core.Path.{_≡_, refl, sym, ap, _∙_}
+use mathlib.Core.Path.{_≡_, refl, sym, ap, subst, _∙_}
 use mathlib.Core.Bool.{Bool, true, false, cond, _&&_, _||_, false≢true}
 use mathlib.Core.List.{List, [], _∷_, _++_, append-assoc, append-nil}
 use native.Mathlib.Omega.{arith}
@@ -24,7 +24,7 @@ use Rattle.candidates.specs.Candidates.{each}
 use Rattle.nester.specs.Matches.{Match}
 use Rattle.nester.specs.Nest.{Slot, nowhere, slot, holds, holder, over, startAt, endAt}
 use Rattle.nester.specs.Fates.{Place, outer, within, same, onward, Row, walk}
-use Rattle.nester.specs.Rows.{field, bindingIn, bindingsIn, placeOf, fateOf, isMet, slotOf, matchIn, rowIn, rowsIn, Candidates, Held, Settles}
+use Rattle.nester.specs.Rows.{field, bindingIn, bindingsIn, placeOf, fateOf, isMet, slotOf, matchIn, rowIn, rowsIn, Candidates, Held, Clear, Settles}
 use Rattle.nester.proofs.Lines.{spanAt, tree-laws}
 
 -- how many elements an element has, from its words
@@ -146,6 +146,7 @@ pub record Coming (t : Elems) (words : List ℕ) (row state k i : ℕ) : Type 0 
   pub outermost : state < 3 → k ≡ 0
   pub few : k < 8
   pub come : Come t words row state k i
+  pub clear : state ≡ 2 → Clear t words row i
 
 -- the captured range of row i that takes it
 abbrev pub taken : Elems → List ℕ → ℕ → ℕ → Slot
@@ -215,8 +216,26 @@ module _ (t : Elems) (words : List ℕ) (row : ℕ) (given : Candidates t words 
   come-end state k low come comments =
       ap (λ (x : List Row). walk t (matchIn comments words row) outer x) (sym (append-nil (rowsIn comments words row))) ∙ come comments [] ∙ rw (le-leb 2 state low)
 
-  pub coming-start : Coming t words row 2 0 0
-  coming-start = record { until = omega arith; low = omega arith; high = omega arith; outermost = λ h. refl; few = omega arith; come = come-start }
+  -- over the first rows, if it meets none of them
+  come-from : (n : ℕ) → n ≤ row → Clear t words row n → Come t words row 2 0 n
+  come-from zero h clear = come-start
+  come-from (suc n) h clear =
+      subst (λ (i : ℕ). Come t words row 2 0 i) (add-one n)
+      (come-by n 2 0 (omega arith) (omega arith) (omega arith) (come-from n (omega arith) (λ i l. clear i (omega arith))) (clear n (omega arith)))
+
+  pub coming-from : (n : ℕ) → n ≤ row → Clear t words row n → Coming t words row 2 0 n
+  coming-from n h clear = record {
+    until = h;
+    low = omega arith;
+    high = omega arith;
+    outermost = λ z. refl;
+    few = omega arith;
+    come = come-from n h clear;
+    clear = λ e. clear;
+  }
+
+  clear-next : (i state k : ℕ) → met t words row state k i ≡ false → Clear t words row i → state ≡ 2 → Clear t words row (i + 1)
+  clear-next i state k e clear two a h = same-or a i (λ q. rw (two, ← q) at e) (λ ne. clear a (omega (arith, ne)))
 
   pub coming-by : (i state k : ℕ) → i < row → Coming t words row state k i → met t words row state k i ≡ false → Coming t words row state k (i + 1)
   coming-by i state k h o e = record {
@@ -226,6 +245,7 @@ module _ (t : Elems) (words : List ℕ) (row : ℕ) (given : Candidates t words 
     outermost = o .outermost;
     few = o .few;
     come = come-by i state k h (o .low) (o .high) (o .come) e;
+    clear = λ two. clear-next i state k e (o .clear two) two;
   }
 
   pub coming-in : (i state k j : ℕ) → i < row → Coming t words row state k i → met t words row state k i ≡ true → j < 8 → taken t words row i ≡ slotOf j → Coming t words row (i + 3) j (i + 1)
@@ -236,6 +256,7 @@ module _ (t : Elems) (words : List ℕ) (row : ℕ) (given : Candidates t words 
     outermost = λ z. absurd (omega arith);
     few = l;
     come = come-in i state k j h (o .low) (o .high) (o .come) e l q;
+    clear = λ z. absurd (omega arith);
   }
 
   pub settles-lost : (i state k : ℕ) → i < row → Coming t words row state k i → met t words row state k i ≡ true → taken t words row i ≡ slotOf 8 → Settles t words row (record { state = 1; slot = 0 })
@@ -245,6 +266,7 @@ module _ (t : Elems) (words : List ℕ) (row : ℕ) (given : Candidates t words 
     high = omega arith;
     none = λ z. refl;
     few = omega arith;
+    clear = λ z. absurd (omega arith);
   }
 
   pub settles : (state k : ℕ) → Coming t words row state k row → Settles t words row (record { state = state; slot = k })
@@ -254,4 +276,5 @@ module _ (t : Elems) (words : List ℕ) (row : ℕ) (given : Candidates t words 
     high = o .high;
     none = o .outermost;
     few = o .few;
+    clear = o .clear;
   }

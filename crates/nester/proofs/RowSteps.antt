@@ -93,6 +93,7 @@ module _ (t : Elems) (before : List ℕ) where
       long = omega (arith, given .long, n .long);
       few = omega (arith, given .few);
       known = λ a h. rw (node-same after before (n .stays) a) (given .known a (omega arith));
+      rising = λ a b l h. rw (node-same after before (n .stays) a, node-same after before (n .stays) b) (given .rising a b l (omega arith));
       distinct = λ a b l h p q. given .distinct a b l (omega arith) (sym (node-same after before (n .stays) a) ∙ p ∙ node-same after before (n .stays) b) (sym (rule-same after before (n .stays) a) ∙ q ∙ rule-same after before (n .stays) b);
     }
 
@@ -136,6 +137,13 @@ module _ (t : Elems) (before : List ℕ) where
 
       steady : Steady last after
       steady a j h p q = elsewhere (a * 44 + j) (λ e. omega (arith, p, q)) (λ e. omega (arith, p, q))
+
+      -- nodes stay, and the states of the rows before it
+      pub nodes-stay : (a : ℕ) → field last a 0 ≡ field after a 0
+      nodes-stay a = steady a 0 (omega arith) (λ z. omega arith) (λ z. omega arith)
+
+      pub states-stay : (a : ℕ) → a < i → field last a 2 ≡ field after a 2
+      states-stay a h = elsewhere (a * 44 + 2) (λ e. omega arith) (λ e. omega arith)
 
       steady-first : Steady last before
       steady-first a j h p q = steady a j h p q ∙ n .stays a j h p q

@@ -5,7 +5,7 @@
 -- Assumes nothing.
 use Prim.Native.Nat.{ℕ, _+_, _-_, _*_, _≤_, _<_}
 use mathlib.Core.Path.{_≡_}
-use mathlib.Core.Bool.{Bool, cond, _&&_, _||_}
+use mathlib.Core.Bool.{Bool, false, cond, _&&_, _||_}
 use mathlib.Core.List.{List, [], _∷_}
 use lib.Dec.{eqb, leb, ltb}
 use lib.ListN.{length}
@@ -73,16 +73,21 @@ module _ (comments : ℕ → ℕ → List ℕ) (words : List ℕ) where
   abbrev pub matchesIn : ℕ → List Match
   matchesIn count = each count matchedIn
 
--- no two of so many rows are of one pair, and each is on an element of the tree
+-- so many rows are by element, no two are of one pair, and each is on an element of the tree
 pub record Candidates (t : Elems) (words : List ℕ) (count : ℕ) : Type 0 where
   pub long : count * 44 ≤ length words
   pub few : count ≤ 1024
   pub known : (i : ℕ) → i < count → field words i 0 < size t
+  pub rising : (i j : ℕ) → i < j → j < count → field words i 0 ≤ field words j 0
   pub distinct : (i j : ℕ) → i < j → j < count → field words i 0 ≡ field words j 0 → field words i 1 ≡ field words j 1 → ⊥
 
 -- a row that is nested is so in one before it
 abbrev pub Held : List ℕ → ℕ → Type 0
 Held words count = (i : ℕ) → i < count → field words i 2 < 3 + i
+
+-- none of the first n rows is kept outermost on the node of a row or an ancestor
+abbrev pub Clear : Elems → List ℕ → ℕ → ℕ → Type 0
+Clear t words row n = (i : ℕ) → i < n → isMet t words i (field words row 0) 2 0 ≡ false
 
 -- what becomes of the match of a row that comes to the rows before it
 pub record Settles (t : Elems) (words : List ℕ) (row : ℕ) (r : Settled) : Type 0 where
@@ -92,6 +97,7 @@ pub record Settles (t : Elems) (words : List ℕ) (row : ℕ) (r : Settled) : Ty
   pub high : r .state < 3 + row
   pub none : r .state < 3 → r .slot ≡ 0
   pub few : r .slot < 8
+  pub clear : r .state ≡ 2 → Clear t words row row
 
 -- so many rows are nested
 pub record Nested (t : Elems) (count : ℕ) (before after : List ℕ) : Type 0 where

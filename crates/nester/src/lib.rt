@@ -4,11 +4,13 @@ use syntax::accessors;
 use syntax::parts;
 use words::fields;
 ghost use mathlib.Core.Path.{_≡_};
+ghost use mathlib.Core.Bool.{cond};
 ghost use Prim.Native.Nat.{ℕ, _+_, _<_, _≤_};
+ghost use lib.Dec.{eqb};
 ghost use Rattle.syntax.specs.Trees.{tree, size};
 ghost use Rattle.syntax.specs.Checks.{WellFormed};
 ghost use Rattle.nester.specs.Nest.{over, holder};
-ghost use Rattle.nester.specs.Rows.{field, isMet, bindingsIn, slotOf, Candidates, Held, Settles, Nested};
+ghost use Rattle.nester.specs.Rows.{field, isMet, bindingsIn, slotOf, Candidates, Held, Clear, Settles, Nested};
 
 // Where a match has come to: the state and the slot of its row.
 struct Settled {
@@ -63,18 +65,20 @@ fn meets(words: &[u32], rows: &[u32], i: usize, node: usize, state: usize, slot:
     there & is_over(words, field(rows, i, 0), node)
 }
 
-// The match of a row comes to the rows before it. Places that hold come first, so one pass is enough.
-fn settle(words: &[u32], rows: &[u32], row: usize) -> Settled
+// The match of a row comes to the rows before it. Places that hold come first, so one pass is enough; the first rows are passed over
+// where it meets none of them.
+fn settle(words: &[u32], rows: &[u32], row: usize, first: usize) -> Settled
     requires { ⌜ WellFormed (now words) ⌝ }
     requires { ⌜ Candidates (tree (now words)) (now rows) (row + 1) ⌝ }
     requires { ⌜ Held (now rows) row ⌝ }
+    requires { ⌜ (first ≤ row) × Clear (tree (now words)) (now rows) row first ⌝ }
     ensures { λ r. ⌜ Settles (tree (now (words .entry))) (now (rows .entry)) row r ⌝ }
 {
     let node = field(rows, row, 0);
     let range = accessors::range_of(accessors::element(words, node));
     let mut state: usize = 2;
     let mut slot: usize = 0;
-    let mut i: usize = 0;
+    let mut i = first;
     while i < row {
         if meets(words, rows, i, node, state, slot) {
             let k = holding(rows, i, range.start, range.end);
@@ -89,7 +93,18 @@ fn settle(words: &[u32], rows: &[u32], row: usize) -> Settled
     Settled { state, slot }
 }
 
-// Nests the matches of so many rows: each is kept outermost, kept in a captured range of another, or dropped.
+// The last row that is kept outermost, once a row has its state.
+fn last_outer(state: usize, row: usize, before: usize) -> usize
+    ensures { λ r. ⌜ r ≡ cond (eqb state 2) row before ⌝ }
+{
+    if state == 2 {
+        return row;
+    }
+    before
+}
+
+// Nests the matches of so many rows: each is kept outermost, kept in a captured range of another, or dropped. Rows are by element and no
+// two that are kept outermost are on one line, so that a match can meet none before the last of these.
 pub fn nest_and_remove_collisions(words: &[u32], rows: &mut [u32], count: usize)
     requires { ⌜ WellFormed (now words) ⌝ }
     requires { ⌜ Candidates (tree (now words)) (now rows) count ⌝ }
@@ -97,11 +112,13 @@ pub fn nest_and_remove_collisions(words: &[u32], rows: &mut [u32], count: usize)
     ensures { λ _. ⌜ Nested (tree (now (words .entry))) count (now (rows .entry)) (now (rows .exit)) ⌝ }
 {
     let mut i: usize = 0;
+    let mut last: usize = 0;
     while i < count {
         if field(rows, i, 2) == 1 {
-            let s = settle(words, rows, i);
+            let s = settle(words, rows, i, last);
             rows[i * 44 + 2] = s.state as u32;
             rows[i * 44 + 3] = s.slot as u32;
+            last = last_outer(s.state, i, last);
         }
         i += 1;
     }

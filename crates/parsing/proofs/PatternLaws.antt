@@ -13,7 +13,7 @@ use Rattle.parsing.specs.Steps.{Leads}
 use Rattle.parsing.specs.Placeholders.{Gathered, Closed, mores, varOf, NamedRead, PlaceholderRead}
 use Rattle.parsing.specs.declared.patterns.Step.{Step}
 use Rattle.parsing.specs.declared.patterns.Step.the-variants.{At, Refused}
-use Rattle.parsing.specs.Answers.{Eight, Fifty}
+use Rattle.parsing.specs.Answers.{Eight, Fifty, nameIndex, noPlaceholder, placeOf, padTo, patternOf, allNots}
 use Prim.Native.Nat.{ℕ, zero, suc, _+_, _-_, _*_, _<_, _≤_}
 use native.Mathlib.Numerals.{add-one}
 use native.Mathlib.Omega.{arith}
@@ -23,7 +23,6 @@ use borrow.Author.Tests.{lt-ltb, le-ltb, ltb-true, ltb-false}
 use Rattle.words.specs.Texts.{part, sameText}
 use Rattle.parsing.specs.declared.patterns.Placeholder.{Placeholder}
 use Rattle.parsing.specs.declared.patterns.Pattern.{Pattern}
-use Rattle.parsing.specs.Answers.{nameIndex, noPlaceholder, placeOf, padTo, patternOf, allNots}
 
 module _ (text : List ℕ) (ps : List Placeholder) (x : List ℕ) (i : ℕ) where
   pub name-step : i < length ps → nameIndex text (drop i ps) x ≡ cond (sameText (part text (getD ps i noPlaceholder .name .start) (getD ps i noPlaceholder .name .end)) x) 0 (1 + nameIndex text (drop (i + 1) ps) x)

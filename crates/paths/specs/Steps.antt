@@ -34,6 +34,9 @@ flagsAt facts place = valueAt (drop (4 * place) facts) 2
 abbrev pub isUsable : ℕ → Bool
 isUsable flags = eqb (flags % 2) 1
 
+abbrev pub isDefinition : ℕ → Bool
+isDefinition flags = eqb (flags / 2 % 2) 1
+
 abbrev pub isAssociated : ℕ → Bool
 isAssociated flags = eqb (flags / 4 % 2) 1
 

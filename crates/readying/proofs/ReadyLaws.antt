@@ -20,14 +20,13 @@ use Rattle.rules.specs.declared.numbering.Rule.{Rule}
 use Rattle.rules.specs.declared.numbering.Found.the-variants.{NoSuchRule, At}
 use Rattle.paths.specs.Steps.{sideOf}
 use Rattle.paths.specs.Tables.{TablesOf}
-use Rattle.resolving.specs.RulePaths.{varsOf, sideAt, treeFails}
-use Rattle.resolving.specs.Needs.{Known, Left}
-use Rattle.resolving.proofs.AskLaws.{template-good}
-use Rattle.resolving.proofs.NeedLaws.{known-pattern}
-use Rattle.checks.specs.Given.{Rules}
-use Rattle.match_node.specs.RuleMatch.{rootOf, templateForm}
-use Rattle.match_node.specs.MatchNode.{foundRule}
-use Rattle.match_node.proofs.ReadyLaws.{template-there, template-resolves}
+use Rattle.rule_paths.specs.RulePaths.{varsOf, sideAt, treeFails}
+use Rattle.rule_paths.specs.Needs.{Known, Left}
+use Rattle.rule_paths.proofs.LeftLaws.{template-good}
+use Rattle.rule_paths.proofs.NeedLaws.{known-pattern}
+use Rattle.checks.specs.Given.{Rules, foundRule}
+use Rattle.preparing.specs.Forms.{rootOf, templateForm}
+use Rattle.preparing.proofs.ReadyLaws.{template-there, template-resolves}
 use Rattle.templates.specs.Pieces as templates
 use Rattle.templates.proofs.WithinLaws.{pieces-fit}
 use Rattle.readying.specs.declared.Template.{Template}

@@ -10,9 +10,8 @@ use Rattle.fragments.specs.Pairs.{Pair, pairAt, codeOf}
 use Rattle.rules.specs.declared.numbering.Found.{Found}
 use Rattle.rules.specs.declared.numbering.Found.the-variants.{NoSuchRule, At}
 use Rattle.matcher.specs.FileFacts.{factValue}
-use Rattle.checks.specs.Given.{Rules}
-use Rattle.match_node.specs.RuleMatch.{templateForm}
-use Rattle.match_node.specs.MatchNode.{foundRule}
+use Rattle.checks.specs.Given.{Rules, foundRule}
+use Rattle.preparing.specs.Forms.{templateForm}
 use Rattle.templates.specs.Pieces.{elementIn}
 use Rattle.rows.specs.Told.{fragmentsOf}
 use Rattle.readying.specs.declared.Template.{Template}

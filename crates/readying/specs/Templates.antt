@@ -8,10 +8,10 @@ use Rattle.syntax.specs.Trees.{Elems, none, token, node}
 use Rattle.fragments.specs.Pairs.{Pair, pairAt, factsOf}
 use Rattle.rules.specs.declared.numbering.Found.{Found}
 use Rattle.rules.specs.declared.numbering.Found.the-variants.{NoSuchRule, At}
-use Rattle.resolving.specs.RulePaths.{sideAt}
+use Rattle.rule_paths.specs.RulePaths.{sideAt}
 use Rattle.matcher.specs.FileFacts.{factValue}
 use Rattle.checks.specs.Given.{Rules}
-use Rattle.match_node.specs.RuleMatch.{rootOf, templateForm}
+use Rattle.preparing.specs.Forms.{rootOf, templateForm}
 use Rattle.templates.specs.Pieces.{Piece, text, path, hole, pieces}
 use Rattle.rendering.specs.Texts.{Fragment, fixed, captured}
 

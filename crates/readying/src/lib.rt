@@ -2,9 +2,7 @@
 pub mod telling; // telling.rt: paths as ranges of the fact text
 
 use fragments::pairs;
-use match_node::preparing;
 use parsing::patterns;
-use resolving::rule_paths;
 use rules::numbering;
 use rules::numbering::Found;
 use templates::rendering::template_pieces;
@@ -19,10 +17,9 @@ ghost use Rattle.fragments.specs.Pairs.{pairOf, pairs, isPresent};
 ghost use Rattle.rules.specs.declared.stages.Stage.the-variants.{TreesWithFacts};
 ghost use Rattle.rules.specs.Forms.{any};
 ghost use Rattle.rules.specs.Stages.{stageOutcome};
-ghost use Rattle.resolving.specs.RulePaths.{treeFails, pairFails};
-ghost use Rattle.resolving.specs.Needs.{Passed, AllRoomy};
-ghost use Rattle.checks.specs.Given.{rulesOf};
-ghost use Rattle.match_node.specs.MatchNode.{foundRule};
+ghost use Rattle.rule_paths.specs.RulePaths.{treeFails, pairFails};
+ghost use Rattle.rule_paths.specs.Needs.{Passed, AllRoomy};
+ghost use Rattle.checks.specs.Given.{rulesOf, foundRule};
 ghost use Rattle.readying.specs.Templates.{kindOf};
 ghost use Rattle.readying.specs.Ready.{Tells, ruleForm, noTemplate, TemplateOf, isReadyFor};
 

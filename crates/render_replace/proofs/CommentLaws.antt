@@ -10,7 +10,7 @@ use lib.ListN.{length, take, drop, length-append, length-drop, drop-of-length-le
 use lib.Seq.{take-at, drop-at, length-take-le}
 use borrow.Author.Tests.{leb-true, leb-false}
 use Rattle.captures.specs.declared.Answer.{Answer}
-use Rattle.captures.specs.Attempts.{Event, Attempt, failed, matched, comments}
+use Rattle.captures.specs.Attempts.{Event, Attempt, failed, matched, comments, commentsOf}
 use Rattle.captures.specs.Effects.{nothing, recorded, laidBy, Gives}
 use Rattle.captures.proofs.AttemptLaws.{noted-total, gives-length}
 use Rattle.rows.specs.Frames.{Grows}
@@ -19,11 +19,9 @@ use Rattle.fragments.specs.Pairs.{pairAt}
 use Rattle.rules.specs.declared.numbering.Rule.{Rule}
 use Rattle.rules.specs.declared.numbering.Found.{Found}
 use Rattle.rules.specs.declared.numbering.Found.the-variants.{NoSuchRule, At}
-use Rattle.get_match.specs.declared.Restriction.{Restriction}
-use Rattle.checks.specs.Given.{File, Rules}
-use Rattle.match_node.specs.RuleMatch.{ruleMatch}
-use Rattle.match_node.specs.MatchNode.{foundRule, foundMatch}
-use Rattle.captures.specs.Attempts.{commentsOf}
+use Rattle.checks.specs.declared.Restriction.{Restriction}
+use Rattle.checks.specs.Given.{File, Rules, foundRule}
+use Rattle.rule_match.specs.RuleMatch.{ruleMatch, foundMatch}
 use Rattle.render_replace.specs.Worlds.{notedComments}
 
 -- the place behind the comments is in the buffer exactly where they fit

@@ -6,8 +6,8 @@ use Prim.Native.Nat.{ℕ, _+_, _*_, _≤_, _<_}
 use native.Mathlib.Nat.{le-refl}
 use native.Mathlib.Omega.{arith}
 use lib.ListN.{length, take}
-use Rattle.match_node.specs.Ready.{MarksRoomy}
-use Rattle.resolving.proofs.FailLaws.{roomy-after}
+use Rattle.preparing.specs.Ready.{MarksRoomy}
+use Rattle.rule_paths.proofs.FailLaws.{roomy-after}
 use Rattle.rows.specs.Rows.{World, rowTrace}
 use Rattle.rows.specs.Frames.{beginOf, entered}
 use Rattle.rows.proofs.FrameLaws.{Entered, enters}

@@ -13,7 +13,7 @@ use Rattle.words.proofs.TestLaws.{same-or}
 use Rattle.words.specs.declared.buffer.Placed.{Placed}
 use Rattle.words.specs.declared.buffer.Placed.the-variants as placed
 use Rattle.fragments.specs.Pairs.{pairAt, inBytes, codeOf}
-use Rattle.get_match.specs.declared.Restriction.{Restriction}
+use Rattle.checks.specs.declared.Restriction.{Restriction}
 use Rattle.checks.specs.Given.{File, Rules}
 use Rattle.rendering.specs.Events.{Event}
 use Rattle.rendering.specs.Traces.{Trace, done, stopped, reach}

@@ -9,7 +9,7 @@ use lib.Dec.{eqb}
 use lib.ListN.{length, take}
 use Rattle.words.specs.declared.buffer.Placed.{Placed}
 use Rattle.words.specs.declared.buffer.Placed.the-variants as placed
-use Rattle.get_match.specs.declared.Restriction.{Restriction}
+use Rattle.checks.specs.declared.Restriction.{Restriction}
 use Rattle.checks.specs.Given.{File, Rules}
 use Rattle.parses.specs.Parses.{parsesOf, lookup}
 use Rattle.rendering.specs.Events.{Event}

@@ -12,12 +12,12 @@ use Rattle.fragments.specs.Pairs.{pairs}
 use Rattle.rules.specs.declared.stages.Stage.the-variants.{TreesWithFacts}
 use Rattle.rules.specs.declared.numbering.Found.{Found}
 use Rattle.rules.specs.Forms.{any}
-use Rattle.resolving.specs.RulePaths.{pairFails}
-use Rattle.resolving.specs.Needs.{AllRoomy}
+use Rattle.rule_paths.specs.RulePaths.{pairFails}
+use Rattle.rule_paths.specs.Needs.{AllRoomy}
 use Rattle.captures.specs.Attempts.{commentsOf}
-use Rattle.get_match.specs.declared.Restriction.{Restriction}
-use Rattle.checks.specs.Given.{File, Rules, fileOf, rulesOf, stage}
-use Rattle.match_node.specs.MatchNode.{foundRule, foundMatch, isNodeOf}
+use Rattle.checks.specs.declared.Restriction.{Restriction}
+use Rattle.checks.specs.Given.{File, Rules, fileOf, rulesOf, stage, foundRule, isNodeOf}
+use Rattle.rule_match.specs.RuleMatch.{foundMatch}
 use Rattle.parses.specs.Parses.{parsesOf, lookup}
 use Rattle.nester.specs.Rows.{field}
 use Rattle.rows.specs.Rows.{World, NestedBefore}

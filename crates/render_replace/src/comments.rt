@@ -1,6 +1,5 @@
 // The comments of a match, found by matching once more: they are not kept.
-use match_node::matching;
-use match_node::matching::Question;
+use rule_match::Question;
 use rules::numbering;
 use rules::numbering::Found;
 use words::buffer::Placed;
@@ -8,11 +7,10 @@ ghost use mathlib.Core.Path.{_≡_};
 ghost use mathlib.Core.Bool.{true};
 ghost use Prim.Native.Nat.{_≤_};
 ghost use lib.ListN.{length};
-ghost use Rattle.resolving.specs.Needs.{AllRoomy};
+ghost use Rattle.rule_paths.specs.Needs.{AllRoomy};
 ghost use Rattle.matcher.specs.FileFacts.{FileOf};
-ghost use Rattle.checks.specs.Given.{fileOf, rulesOf};
-ghost use Rattle.match_node.specs.MatchNode.{isNodeOf};
-ghost use Rattle.match_node.specs.Ready.{MarksRoomy};
+ghost use Rattle.checks.specs.Given.{fileOf, rulesOf, isNodeOf};
+ghost use Rattle.preparing.specs.Ready.{MarksRoomy};
 ghost use Rattle.replacing.specs.Laying.{Lays};
 ghost use Rattle.render_replace.specs.Worlds.{notedComments, Checked};
 
@@ -47,7 +45,7 @@ pub fn put_comments(
     match numbering::rule_at(directory, words, bytes, question.rule) {
         Found::NoSuchRule => Placed::At(at),
         Found::At(rule) => {
-            let r = matching::match_pair(
+            let r = rule_match::match_pair(
                 directory,
                 words,
                 bytes,

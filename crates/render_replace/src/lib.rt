@@ -4,7 +4,7 @@ pub mod turns; // turns.rt: one row's turn
 
 use crate::turns::Laid;
 use crate::turns::Next;
-use get_match::Restriction;
+use checks::Restriction;
 use readying::Template;
 use rows::frames;
 ghost use mathlib.Core.Path.{_≡_};
@@ -14,7 +14,7 @@ ghost use lib.ListN.{length, take};
 ghost use Rattle.parses.specs.Parses.{isParseList};
 ghost use Rattle.matcher.specs.FileFacts.{FileOf};
 ghost use Rattle.checks.specs.Given.{rulesOf};
-ghost use Rattle.match_node.specs.Ready.{MarksRoomy};
+ghost use Rattle.preparing.specs.Ready.{MarksRoomy};
 ghost use Rattle.rows.specs.Rows.{World, rowTrace};
 ghost use Rattle.rows.specs.Frames.{beginOf};
 ghost use Rattle.render_replace.specs.Worlds.{handedOf, Shown, Checked, Lent, HasFrames, AtHand};

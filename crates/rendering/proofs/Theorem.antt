@@ -18,12 +18,9 @@ use Rattle.nester.specs.Matches.{Match}
 use Rattle.nester.specs.Nest.{Nest, none, kept}
 use Rattle.nester.specs.Places.{Item, before, insert, items}
 use Rattle.rendering.specs.Events.{Unbound, Asked, Out, fine, event, after, Text, lay, _andThen_, inTurn, concat}
-use Rattle.rendering.specs.Texts.{Fragment, fixed, captured, Setting, bindingAt, prefix, isParsed, enclosed, enclosedEach, partsOf}
-use Rattle.rendering.specs.Texts.{filled, capturedText, fragmentText, fragmentTexts, renderedAgain, judged, finished, rendered}
-use Rattle.rendering.specs.Traces.{Trace, done, stopped, within, reach, _then_, Traces, all, stops, first, fragmentTrace, tracesOf}
-use Rattle.rendering.specs.Traces.{holeTrace, judgedTrace, finishedTrace, matchTrace, filledTrace, slotTrace, renderedTrace}
-use Rattle.rendering.proofs.RoomLaws.{inRoom-fits, inRoom-after, inRoom-again, outcome, within-reach, within-fits, within-then}
-use Rattle.rendering.proofs.RoomLaws.{length-concat, withinTraces, joined, joined-done, joined-all, inTurn-within}
+use Rattle.rendering.specs.Texts.{Fragment, fixed, captured, Setting, bindingAt, prefix, isParsed, enclosed, enclosedEach, partsOf, filled, capturedText, fragmentText, fragmentTexts, renderedAgain, judged, finished, rendered}
+use Rattle.rendering.specs.Traces.{Trace, done, stopped, within, reach, _then_, Traces, all, stops, first, fragmentTrace, tracesOf, holeTrace, judgedTrace, finishedTrace, matchTrace, filledTrace, slotTrace, renderedTrace}
+use Rattle.rendering.proofs.RoomLaws.{inRoom-fits, inRoom-after, inRoom-again, outcome, within-reach, within-fits, within-then, length-concat, withinTraces, joined, joined-done, joined-all, inTurn-within}
 
 -- ---- what is needed of parentheses
 

@@ -1,4 +1,2 @@
 -- Laws of the definitions of specs/, for this crate and those above.
-pub mod NeedLaws
-pub mod FailLaws
-pub mod AskLaws
+mod AskLaws

@@ -1,3 +1,1 @@
-pub mod RulePaths
 pub mod Resolving
-pub mod Needs

@@ -22,7 +22,7 @@ use Rattle.rules.specs.declared.stages.Stage.the-variants.{TreesWithFacts}
 use Rattle.rules.specs.Stages.{rulesOutcome}
 use Rattle.rules.specs.Numbering.{rules, ruleAt}
 use Rattle.paths.specs.Resolved.{pathAt, callAt}
-use Rattle.resolving.specs.RulePaths.{sideAt, pathsOutcome}
+use Rattle.rule_paths.specs.RulePaths.{sideAt, pathsOutcome}
 use Rattle.resolving.specs.declared.asking.Element.{Element}
 use Rattle.resolving.specs.declared.asking.Resolved.{Resolved}
 use Rattle.resolving.specs.declared.asking.Resolved.the-variants as resolved

@@ -1,5 +1,4 @@
 // What an element of a rule is. The four tables are lent; they say nothing before, and are of the tree asked about after.
-use crate::rule_paths;
 use errors::Refusal;
 use fragments::pairs;
 use parsing::patterns;
@@ -14,9 +13,9 @@ ghost use mathlib.Core.Bool.{true, false};
 ghost use Prim.Native.Nat.{_≤_};
 ghost use Rattle.fragments.specs.Pairs.{pairOf, pairAt, isPresent};
 ghost use Rattle.rules.specs.Forms.{templateTree};
-ghost use Rattle.resolving.specs.RulePaths.{treeFails, templateFails};
+ghost use Rattle.rule_paths.specs.RulePaths.{treeFails, templateFails};
 ghost use Rattle.resolving.specs.Resolving.{inTree, inTemplate, inRule};
-ghost use Rattle.resolving.specs.Needs.{Passed, Left, AllRoomy};
+ghost use Rattle.rule_paths.specs.Needs.{Passed, Left, AllRoomy};
 
 // An element of a rule's tree.
 pub struct Element {

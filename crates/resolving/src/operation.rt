@@ -1,7 +1,6 @@
 // The operation "Resolving".
 use crate::asking;
 use crate::asking::Resolved;
-use crate::rule_paths;
 use errors::Outcome;
 use errors::Refusal;
 use rules::numbering;
@@ -19,9 +18,9 @@ ghost use Rattle.rules.specs.declared.stages.Stage.the-variants.{TreesWithFacts
 ghost use Rattle.rules.specs.Forms.{any};
 ghost use Rattle.rules.specs.Stages.{stageOutcome};
 ghost use Rattle.rules.specs.Numbering.{rules, ruleAt};
-ghost use Rattle.resolving.specs.RulePaths.{pairFails};
+ghost use Rattle.rule_paths.specs.RulePaths.{pairFails};
 ghost use Rattle.resolving.specs.Resolving.{inFound, resolvedElement};
-ghost use Rattle.resolving.specs.Needs.{AllRoomy};
+ghost use Rattle.rule_paths.specs.Needs.{AllRoomy};
 
 // The element asked for, of rules that passed all stages.
 fn ask(

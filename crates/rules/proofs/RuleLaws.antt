@@ -75,3 +75,10 @@ at-later k n d w b q h l =
 pub at-none : (k : ℕ) (d w b : List ℕ) (q : ℕ) → ruleAt (rulesFrom k (pairsOf 0 d w b)) q ≡ NoSuchRule
 unfolding ruleAt
 at-none k d w b q = rw (rules-end k d w b)
+
+-- a number below how many there are is that of a rule
+pub rule-there : (l : List Rule) (number : ℕ) → number < length l → ruleAt l number ≡ NoSuchRule → ⊥
+unfolding ruleAt
+rule-there [] number h e = omega arith
+rule-there (r ∷ l) zero h e = let z : _≡_ {A = ℕ} 0 1 = cc in omega arith
+rule-there (r ∷ l) (suc number) h e = rule-there l number (omega arith) e

@@ -6,7 +6,7 @@ use mathlib.Core.List.{map}
 use lib.Dec.{eqb}
 use Rattle.errors.specs.Refusals.{numberOf}
 use Rattle.captures.specs.declared.Binding.{Binding}
-use Rattle.get_match.specs.declared.Restriction.{Restriction}
+use Rattle.checks.specs.declared.Restriction.{Restriction}
 use Rattle.answers.specs.declared.Case.{Case}
 use Rattle.answers.specs.declared.Case.the-variants.{Refused, NoMatch, Matched}
 use Rattle.answers.specs.declared.NodeMatch.{NodeMatch}

@@ -2,8 +2,7 @@
 use crate::ranges;
 use answers::Case;
 use captures::Binding;
-use match_node::matching::Question;
-use match_node::operation;
+use rule_match::Question;
 ghost use mathlib.Core.Path.{_≡_};
 ghost use mathlib.Core.List.{map};
 ghost use lib.ListN.{length};
@@ -126,7 +125,7 @@ pub extern "C" fn ssr_match_node(
     let range = ranges::restriction_of(range_given, range_start, range_end);
     let question = Question { rule, node, range };
     let bytes_of_facts = fact_text.len();
-    let m = operation::match_node(
+    let m = match_node::match_node(
         directory,
         words,
         bytes,

@@ -1,5 +1,5 @@
 // The range that matches have to be in, as it is handed over.
-use get_match::Restriction;
+use checks::Restriction;
 ghost use mathlib.Core.Path.{_≡_};
 ghost use Rattle.ssr.specs.Matches.{restriction};
 

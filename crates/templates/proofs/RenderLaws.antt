@@ -20,9 +20,8 @@ use Rattle.syntax.specs.Accessors.{children, rest, some, between, nodeIn, findN
 use Rattle.syntax.proofs.PartLaws.{span-pos, length-rest}
 use Rattle.syntax.proofs.TreeLaws.{elems-end, elems-token, elems-node}
 use Rattle.syntax.proofs.AccessorLaws.{children-are, rest-are, some-is, node-token, node-in}
-use Rattle.paths.specs.Steps.{flagsAt}
+use Rattle.paths.specs.Steps.{flagsAt, isDefinition}
 use Rattle.paths.proofs.NameLaws.{children-few, children-of}
-use Rattle.get_match.specs.Templates.{isDefinition}
 use Rattle.templates.specs.Pieces.{Piece, text, path, hole, receiverBelow, isReceiver, rendersPath, Template, tokenPiece, everything, firstSegment, butNames, render, codeOf}
 use Rattle.templates.specs.Rendering.{modeOf, elementPieces, Laid, Lays, Room}
 

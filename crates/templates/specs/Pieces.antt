@@ -10,9 +10,8 @@ use Rattle.rust_code.specs.StandIns.{standInIndex}
 use Rattle.syntax.specs.Trees.{Elems, none, token, node}
 use Rattle.syntax.specs.Accessors.{findExpression, byItself}
 use Rattle.paths.specs.Names.{Placeholders, isStandIn}
-use Rattle.paths.specs.Steps.{Side, flagsAt}
+use Rattle.paths.specs.Steps.{Side, flagsAt, isDefinition}
 use Rattle.paths.specs.Resolved.{resolvedPaths, lastNote}
-use Rattle.get_match.specs.Templates.{isDefinition}
 
 -- a token's bytes in the template's code; the text of a rendered path, for the module of the matched node; what a placeholder captured
 pub data Piece : Type 0 where

@@ -1,10 +1,10 @@
 // The whole-file walk: a candidate of every node with every rule. Those that match are found and laid as a job's candidates, and the job's edit
 // list is written.
+use checks::Restriction;
 use edits::Edited;
 use errors::Outcome;
 use errors::Refusal;
-use finding::finding::find_all;
-use get_match::Restriction;
+use finding::find_all;
 use rules::numbering;
 use words::buffer;
 ghost use mathlib.Core.Path.{_≡_};
@@ -14,11 +14,11 @@ ghost use Prim.Native.Nat.{_*_, _/_, _≤_};
 ghost use lib.ListN.{length, drop};
 ghost use Rattle.errors.specs.Refusals.{firstOf, inTurn};
 ghost use Rattle.words.specs.Buffer.{usedOf, filled};
-ghost use Rattle.resolving.specs.Needs.{AllRoomy};
+ghost use Rattle.rule_paths.specs.Needs.{AllRoomy};
 ghost use Rattle.checks.specs.Given.{fileOf};
-ghost use Rattle.match_node.specs.Ready.{MarksRoomy};
+ghost use Rattle.preparing.specs.Ready.{MarksRoomy};
 ghost use Rattle.parses.specs.Parses.{isParseList, parsesOutcome};
-ghost use Rattle.finding.specs.Finds.{Laid};
+ghost use Rattle.walk_nodes.specs.Finds.{Laid};
 ghost use Rattle.edits.specs.Answers.{answerOf, bytesOf};
 ghost use Rattle.job_answers.specs.Answers.{listIn, answerAfter, bytesAfter};
 ghost use Rattle.walk_answers.specs.Walk.{walkOf, walkMatches, walkChecks, walkAnswer, walkBuffer};

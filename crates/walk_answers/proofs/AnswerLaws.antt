@@ -8,7 +8,7 @@ use Rattle.errors.specs.declared.Outcome.{Outcome}
 use Rattle.errors.specs.declared.Outcome.the-variants.{Accepted, Refused}
 use Rattle.errors.specs.declared.Refusal.{Refusal}
 use Rattle.words.specs.Buffer.{usedOf, filled}
-use Rattle.match_node.proofs.AskedLaws.{used-all, part-filled}
+use Rattle.words.proofs.BufferLaws.{used-all, part-filled}
 use Rattle.rendering.specs.Events.{Out}
 use Rattle.edits.specs.declared.Edited.{Edited}
 use Rattle.edits.specs.declared.Edited.the-variants as edited

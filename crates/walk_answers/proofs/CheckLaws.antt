@@ -16,20 +16,19 @@ use Rattle.errors.specs.Refusals.{firstOf, inTurn}
 use Rattle.errors.proofs.Laws.{first-pass, first-stop, turn-passes, turn-refuses, turn-both, turn-last}
 use Rattle.syntax.specs.Checks.{WellFormed}
 use Rattle.facts.specs.Keys.{Indexed}
-use Rattle.resolving.specs.RulePaths.{pathsOutcome}
-use Rattle.resolving.proofs.FailLaws.{not-true, not-false}
+use Rattle.rule_paths.specs.RulePaths.{pathsOutcome}
+use Rattle.rule_paths.proofs.FailLaws.{not-true, not-false}
 use Rattle.candidates.specs.Candidates.{Candidate, candidateCount}
-use Rattle.checks.specs.Given.{File, givenOutcome}
-use Rattle.get_match.specs.declared.Restriction.{Restriction}
-use Rattle.match_node.specs.MatchNode.{isRange}
-use Rattle.match_node.proofs.AskedLaws.{trees-accepted}
+use Rattle.checks.specs.Given.{File, givenOutcome, isRange}
+use Rattle.checks.specs.declared.Restriction.{Restriction}
+use Rattle.checks.proofs.GivenLaws.{trees-accepted}
 use Rattle.parses.specs.Parses.{parsesOutcome}
 use Rattle.rules.specs.Numbering.{rules}
 use Rattle.job_checks.specs.Checks.{Job, rulesIn, pairsIn, treeIn, candidatesIn, ruleCount, anyWithoutTemplate, jobChecks, jobOutcome}
 use Rattle.job_checks.proofs.CheckLaws.{first-both, turns-pass, turns-refuse}
 use Rattle.job_checks.proofs.JobLaws.{toResolve, rules-formed}
 use Rattle.job_answers.specs.Collected.{attemptIn}
-use Rattle.finding.specs.WalkCandidates.{walkCandidates}
+use Rattle.walk_nodes.specs.WalkCandidates.{walkCandidates}
 use Rattle.walk_answers.specs.Walk.{walkOf, walkMatches, walkChecks, walkOutcome}
 use Rattle.walk_answers.specs.Walkable.{Resolved, Walkable}
 use Rattle.walk_answers.proofs.ListLaws.{candidates-words, count-words, walk-named, walk-once, accepted-fewer}

@@ -7,7 +7,7 @@ use Prim.Native.Nat.{ℕ, _*_, _≤_}
 use native.Mathlib.Omega.{arith}
 use lib.ListN.{length, take}
 use Rattle.sorting.specs.Sorted.{sort}
-use Rattle.get_match.specs.declared.Restriction.{Restriction}
+use Rattle.checks.specs.declared.Restriction.{Restriction}
 use Rattle.checks.specs.Given.{File}
 use Rattle.candidates.specs.Candidates.{Candidate, candidatesOf, candidateCount, has, anyBad, isTwice, keysOf}
 use Rattle.parses.specs.Parses.{isParseList}
@@ -21,8 +21,8 @@ use Rattle.job_checks.specs.Checks.{Job, jobOf, treeIn, candidatesIn, ruleCount
 use Rattle.job_checks.specs.Checked.{Checked}
 use Rattle.job_answers.specs.Collected.{attemptIn, startIn, endIn, settingOf}
 use Rattle.job_answers.specs.Answers.{listIn}
-use Rattle.finding.specs.WalkCandidates.{walkCandidates, accepted, wordsOf}
-use Rattle.finding.specs.Finds.{Laid, Finds}
+use Rattle.walk_nodes.specs.WalkCandidates.{walkCandidates, accepted, wordsOf}
+use Rattle.walk_nodes.specs.Finds.{Laid, Finds}
 use Rattle.walk_answers.specs.Walk.{walkOf, walkMatches}
 use Rattle.walk_answers.specs.Walkable.{Walkable}
 use Rattle.walk_answers.proofs.SetLaws.{matches-same, has-accepted}

@@ -14,7 +14,7 @@ use Rattle.syntax.specs.Accessors.{elementAt, nodeIn}
 use Rattle.captures.specs.Attempts.{Attempt}
 use Rattle.candidates.specs.Candidates.{Candidate, candidatesOf, candidateCount, has, isNamed, anyBad, isTwice, each}
 use Rattle.candidates.proofs.CandidateLaws.{length-candidates}
-use Rattle.finding.specs.WalkCandidates.{nodeWith, nodesWith, nodesOf, walkCandidates, isMatch, accepted, wordsOf}
+use Rattle.walk_nodes.specs.WalkCandidates.{nodeWith, nodesWith, nodesOf, walkCandidates, isMatch, accepted, wordsOf}
 
 -- a test that cannot hold
 never : (b : Bool) → (b ≡ true → ⊥) → b ≡ false

@@ -13,7 +13,7 @@ use Rattle.captures.specs.Attempts.{Attempt, failed, matched}
 use Rattle.candidates.specs.Candidates.{Candidate, Pairs, has}
 use Rattle.candidates.proofs.EachLaws.{each-same}
 use Rattle.nester.specs.Matches.{Match, matchOf, matches}
-use Rattle.finding.specs.WalkCandidates.{isMatch, accepted}
+use Rattle.walk_nodes.specs.WalkCandidates.{isMatch, accepted}
 
 -- ---- THE LAW: sets with the same pairs that match have the same matches
 

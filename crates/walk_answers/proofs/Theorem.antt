@@ -5,7 +5,7 @@ use Prim.Native.Nat.{ℕ}
 use lib.ListN.{length}
 use Rattle.words.specs.Buffer.{usedOf, filled}
 use Rattle.checks.specs.Given.{File}
-use Rattle.get_match.specs.declared.Restriction.{Restriction}
+use Rattle.checks.specs.declared.Restriction.{Restriction}
 use Rattle.job_answers.specs.Answers.{listIn, answerAfter, bytesAfter}
 use Rattle.walk_answers.specs.Walk.{walkOf}
 use Rattle.walk_answers.specs.WalkIsJob.{WalkIsJob}

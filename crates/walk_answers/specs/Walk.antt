@@ -13,17 +13,16 @@ use Rattle.words.specs.Buffer.{usedOf, filled}
 use Rattle.syntax.specs.Trees.{tree}
 use Rattle.fragments.specs.Pairs.{pairs}
 use Rattle.rules.specs.Numbering.{rules}
-use Rattle.resolving.specs.RulePaths.{pathsOutcome}
-use Rattle.get_match.specs.declared.Restriction.{Restriction}
-use Rattle.checks.specs.Given.{File, givenOutcome}
-use Rattle.match_node.specs.MatchNode.{isRange}
+use Rattle.rule_paths.specs.RulePaths.{pathsOutcome}
+use Rattle.checks.specs.declared.Restriction.{Restriction}
+use Rattle.checks.specs.Given.{File, givenOutcome, isRange}
 use Rattle.candidates.specs.Candidates.{Candidate}
 use Rattle.parses.specs.Parses.{parsesOutcome}
 use Rattle.edits.specs.declared.Edited.{Edited}
 use Rattle.job_checks.specs.Checks.{Job, jobOf, rulesIn, pairsIn, candidatesIn, ruleCount, anyWithoutTemplate}
 use Rattle.job_answers.specs.Collected.{attemptIn}
 use Rattle.job_answers.specs.Answers.{listIn, answerAfter, bytesAfter}
-use Rattle.finding.specs.WalkCandidates.{walkCandidates, accepted, wordsOf}
+use Rattle.walk_nodes.specs.WalkCandidates.{walkCandidates, accepted, wordsOf}
 
 -- what is handed in, as the job whose candidates are every node with every rule
 abbrev pub walkOf : List ℕ → List ℕ → List ℕ → List ℕ → File → List ℕ → List ℕ → Restriction → Job

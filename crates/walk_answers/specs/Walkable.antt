@@ -12,8 +12,8 @@ use Rattle.rules.specs.declared.stages.Stage.the-variants.{Forms, TreesWithFact
 use Rattle.rules.specs.Forms.{any}
 use Rattle.rules.specs.Numbering.{rules}
 use Rattle.rules.specs.Stages.{stageOutcome}
-use Rattle.resolving.specs.RulePaths.{pairFails}
-use Rattle.match_node.specs.MatchNode.{isRange}
+use Rattle.rule_paths.specs.RulePaths.{pairFails}
+use Rattle.checks.specs.Given.{isRange}
 use Rattle.job_checks.specs.Checks.{Job, pairsIn, ruleCount, anyWithoutTemplate}
 
 -- with the index of the file's facts

@@ -1,7 +1,7 @@
 // What the walk answers: its candidates, its checks, and that within the limits it is the job on its list.
+use checks::Restriction;
 use errors::Outcome;
 use errors::Refusal;
-use get_match::Restriction;
 use rules::numbering;
 ghost use mathlib.Core.Path.{_≡_};
 ghost use mathlib.Core.List.{[]};

@@ -1,16 +1,15 @@
 -- Laws of the output buffer: what laying answers, lengths, two writes as one, and how a result laid at the front fills the buffer.
 -- Assumes nothing.
-use mathlib.Core.Path.{_≡_, refl, sym, ap, _∙_}
+use mathlib.Core.Path.{_≡_, refl, ap, _∙_}
 use mathlib.Core.Bool.{Bool, true, false, cond}
-use mathlib.Core.List.{List, [], _∷_, _++_, append-assoc, append-nil}
+use mathlib.Core.List.{List, _++_, append-assoc, append-nil}
 use Prim.Native.Nat.{ℕ, _+_, _-_, _<_, _≤_}
 use native.Mathlib.Nat.{add-assoc}
 use native.Mathlib.Omega.{arith}
 use lib.Dec.{leb}
-use lib.ListN.{length, take, drop, replicate, length-append, length-take, length-drop, length-replicate, drop-of-length-le}
+use lib.ListN.{length, take, drop, replicate, length-append, length-take, length-drop, drop-of-length-le}
 use lib.Seq.{take-at, drop-at, drop-drop, take-all, length-take-le}
 use borrow.Author.Tests.{le-leb, lt-leb, leb-true, leb-false}
-use Rattle.words.specs.declared.buffer.Placed.{Placed}
 use Rattle.words.specs.declared.buffer.Placed.the-variants.{At, Full}
 use Rattle.words.specs.Buffer.{usedOf, padded, filled, laid, placeAfter, laidIfRoom}
 
@@ -102,3 +101,30 @@ ended d e bs n h k =
     let u = usedOf (length d) in
     let l : length (e ++ drop u d) ≡ length d = length-append e (drop u d) ∙ omega (arith, h, length-drop u d, used-within (length d)) in
     rw (l, take-at e (drop u d) u h, drop-at e (drop u d) u h, k)
+
+-- the used part of a buffer
+pub used-all : (n : ℕ) → n ≤ 1048576 → usedOf n ≡ n
+used-all n h = rw (le-leb n 1048576 h)
+
+small-by : (b : Bool) (n : ℕ) → leb n 1048576 ≡ b → cond b n 1048576 ≤ 1048576
+small-by true n h = omega (arith, leb-true n 1048576 h)
+small-by false n h = omega arith
+
+pub used-small : (n : ℕ) → usedOf n ≤ 1048576
+used-small n = small-by (leb n 1048576) n refl
+
+-- filled by itself, with what is beyond it behind it
+pub used-part : (d bs : List ℕ) → filled (take (usedOf (length d)) d) bs ++ drop (usedOf (length d)) d ≡ filled d bs
+used-part d bs =
+    let u = usedOf (length d) in
+    let l : length (take u d) ≡ u = length-take-le u d (used-within (length d)) in
+    let z : length (take u d) ≤ u = omega (arith, l) in
+    rw (l, used-all u (used-small (length d)), drop-of-length-le (take u d) z, append-nil (padded u bs))
+
+-- an operation that was made in the used part alone, its bytes by how many of these there are
+pub part-filled : (bs : ℕ → List ℕ) (d e : List ℕ) → let u = usedOf (length d) in e ≡ filled (take u d) (bs (usedOf (length (take u d))))
+    → e ++ drop u d ≡ filled d (bs u)
+part-filled bs d e h =
+    let u = usedOf (length d) in
+    let l : usedOf (length (take u d)) ≡ u = ap (λ (n : ℕ). usedOf n) (length-take-le u d (used-within (length d))) ∙ used-all u (used-small (length d)) in
+    ap (λ (x : List ℕ). x ++ drop u d) (h ∙ ap (λ (n : ℕ). filled (take u d) (bs n)) l) ∙ used-part d (bs u)

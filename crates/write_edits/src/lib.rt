@@ -1,7 +1,7 @@
 // The edit list of a job, from front to back: an edit for each outer row, with its text and those nested in it.
+use checks::Restriction;
 use edits::Edited;
 use errors::Refusal;
-use get_match::Restriction;
 use readying::Template;
 use render_replace::Rendered;
 use render_replace::turns::Laid;
@@ -15,7 +15,7 @@ ghost use lib.ListN.{length, take};
 ghost use Rattle.words.specs.Buffer.{filled};
 ghost use Rattle.matcher.specs.FileFacts.{FileOf};
 ghost use Rattle.checks.specs.Given.{rulesOf};
-ghost use Rattle.match_node.specs.Ready.{MarksRoomy};
+ghost use Rattle.preparing.specs.Ready.{MarksRoomy};
 ghost use Rattle.parses.specs.Parses.{isParseList};
 ghost use Rattle.rendering.specs.Traces.{Trace, within};
 ghost use Rattle.edits.specs.Answers.{answerOf, bytesOf};

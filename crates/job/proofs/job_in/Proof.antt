@@ -6,7 +6,7 @@ use native.Mathlib.Omega.{arith}
 use borrow.Author.Needs.{needs}
 use denote.Ref.{now}
 use Rattle.checks.specs.Given.{fileOf}
-use Rattle.resolving.proofs.FailLaws.{roomy-after}
+use Rattle.rule_paths.proofs.FailLaws.{roomy-after}
 use Rattle.job_checks.specs.Checks.{Job, jobOf}
 use Rattle.job.proofs.JobLaws.{job-refused, job-accepted}
 use Rattle.job.proofs.job_in.Statement.{statement}

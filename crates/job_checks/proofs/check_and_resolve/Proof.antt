@@ -5,9 +5,9 @@ use native.Mathlib.Nat.{le-refl}
 use borrow.Author.Needs.{needs}
 use denote.Ref.{now}
 use Rattle.errors.proofs.Laws.{refused-not}
-use Rattle.resolving.proofs.FailLaws.{roomy-after, not-true, not-false}
+use Rattle.rule_paths.proofs.FailLaws.{roomy-after, not-true, not-false}
 use Rattle.checks.specs.Given.{fileOf, rulesOf}
-use Rattle.match_node.proofs.AskedLaws.{trees-accepted}
+use Rattle.checks.proofs.GivenLaws.{trees-accepted}
 use Rattle.job_checks.proofs.JobLaws.{given-refuses, path-fails, all-resolve}
 use Rattle.job_checks.proofs.check_and_resolve.Statement.{statement}
 use Rattle.job_checks.proofs.check_and_resolve.Tie as tie

@@ -12,15 +12,15 @@ use Rattle.syntax.specs.Trees.{size, tree, elems}
 use Rattle.syntax.proofs.Places.{tree-size}
 use Rattle.nester.specs.Nest.{holder}
 use Rattle.nester.specs.Rows.{field, bindingsIn, slotOf}
-use Rattle.nester.proofs.RowLaws.{Coming, met, taken, range-given, coming-start, coming-by, coming-in, settles-lost, settles}
+use Rattle.nester.proofs.RowLaws.{Coming, met, taken, range-given, coming-from, coming-by, coming-in, settles-lost, settles}
 use Rattle.nester.proofs.settle.Statement.{statement}
 use Rattle.nester.proofs.settle.Tie as tie
 
 abbrev Inv-loop : tie.InvT-loop
-Inv-loop words rows row node range state₀ slot₀ i₀ state slot i = Coming (tree words) rows row state slot i
+Inv-loop words rows row first node range state₀ slot₀ i₀ state slot i = Coming (tree words) rows row state slot i
 
 abbrev μ-loop : tie.MeasureT-loop
-μ-loop words rows row node range state₀ slot₀ i₀ state slot i = row - i
+μ-loop words rows row first node range state₀ slot₀ i₀ state slot i = row - i
 
 field-requires : tie.Need-field-requires Inv-loop μ-loop
 field-requires c κs = let p = c .before .before .pre .1 .0 .few in (omega arith, omega arith)
@@ -35,7 +35,7 @@ range-of-requires : tie.Need-range-of-requires Inv-loop μ-loop
 range-of-requires c κs = search needs
 
 loop-holds : tie.Need-loop-holds Inv-loop μ-loop
-loop-holds c = let s = c .before .before .before .before .before in coming-start (tree (now (s .args .words))) (now (s .args .rows)) (s .args .row) (s .pre .1 .0) (s .pre .1 .1)
+loop-holds c = let s = c .before .before .before .before .before in coming-from (tree (now (s .args .words))) (now (s .args .rows)) (s .args .row) (s .pre .1 .0) (s .pre .1 .1 .0) (s .args .first) (s .pre .1 .1 .1 .0) (s .pre .1 .1 .1 .1)
 
 meets-requires : tie.Need-meets-requires Inv-loop μ-loop
 meets-requires c κs =
@@ -65,7 +65,7 @@ returns c =
     let rg = range-given w n (field rows row 0) (elems n (now (c₅ .before .before .element .result))) (c₅ .before .range-of .result) (c₅ .before .range-of .ensures n) (c₅ .before .before .element .ensures .0) (c₈ .field .ensures) in
     let q : taken (tree w) rows row (l .i) ≡ slotOf 8 = ap (λ (r : Range). holder 0 (bindingsIn rows (l .i)) (r .start) (r .end)) (sym rg) ∙ c .before .holding .ensures .0 ∙ ap (λ (k : ℕ). slotOf k) (c .if2 .taken) in
     let e : met (tree w) rows row (l .state) (l .slot) (l .i) ≡ true = sym (rw (c₈ .field .ensures) at (c₃ .meets .ensures)) ∙ c .before .before .if1 .taken in
-    settles-lost (tree w) rows row (s .pre .1 .0) (s .pre .1 .1) (l .i) (l .state) (l .slot) (c₃ .before .loop-test .taken) (l .inv) e q
+    settles-lost (tree w) rows row (s .pre .1 .0) (s .pre .1 .1 .0) (l .i) (l .state) (l .slot) (c₃ .before .loop-test .taken) (l .inv) e q
 
 add-state : tie.Need-add-state Inv-loop μ-loop
 add-state c = let c₄ = c .before .before .before .before in let s = c₄ .before .before .before .before .before .before .before in omega (arith, s .pre .1 .0 .few, c₄ .loop-test .taken)
@@ -93,9 +93,9 @@ loop-again c =
     ⊎-elim
     (λ h.
     let q : taken (tree w) rows row (l .i) ≡ slotOf (h .1 .result) = ap (λ (r : Range). holder 0 (bindingsIn rows (l .i)) (r .start) (r .end)) (sym rg) ∙ h .1 .ensures .0 in
-    let o = coming-in (tree w) rows row (s .pre .1 .0) (s .pre .1 .1) (l .i) (l .state) (l .slot) (h .1 .result) lt (l .inv) (sym m ∙ h .0 .taken) (omega (arith, h .1 .ensures .1, h .2 .left)) q in
+    let o = coming-in (tree w) rows row (s .pre .1 .0) (s .pre .1 .1 .0) (l .i) (l .state) (l .slot) (h .1 .result) lt (l .inv) (sym m ∙ h .0 .taken) (omega (arith, h .1 .ensures .1, h .2 .left)) q in
     rw (h .3, h .4) o)
-    (λ h. let o = coming-by (tree w) rows row (s .pre .1 .0) (s .pre .1 .1) (l .i) (l .state) (l .slot) lt (l .inv) (sym m ∙ h .0 .left) in rw (h .1, h .2) o)
+    (λ h. let o = coming-by (tree w) rows row (s .pre .1 .0) (s .pre .1 .1 .0) (l .i) (l .state) (l .slot) lt (l .inv) (sym m ∙ h .0 .left) in rw (h .1, h .2) o)
     (c .if1 .came)
 
 returns-2 : tie.Need-returns-2 Inv-loop μ-loop
@@ -105,7 +105,7 @@ returns-2 c =
     let row = s .args .row in
     let w = tree (now (s .args .words)) in
     let e : l .i ≡ row = omega (arith, l .inv .until, c .loop-test .left) in
-    settles w (now (s .args .rows)) row (s .pre .1 .0) (s .pre .1 .1) (l .state) (l .slot) (subst (λ (i : ℕ). Coming w (now (s .args .rows)) row (l .state) (l .slot) i) e (l .inv))
+    settles w (now (s .args .rows)) row (s .pre .1 .0) (s .pre .1 .1 .0) (l .state) (l .slot) (subst (λ (i : ℕ). Coming w (now (s .args .rows)) row (l .state) (l .slot) i) e (l .inv))
 
 pub settle-spec : {M : Type 1} → statement M
 settle-spec =

@@ -6,8 +6,8 @@ use native.Mathlib.Omega.{arith}
 use borrow.Author.Needs.{needs}
 use denote.Ref.{now}
 use Rattle.fragments.proofs.PairLaws.{pair-is}
-use Rattle.resolving.proofs.AskLaws.{left-rule, passed-rule}
-use Rattle.resolving.proofs.FailLaws.{roomy-after}
+use Rattle.rule_paths.proofs.LeftLaws.{left-rule, passed-rule}
+use Rattle.rule_paths.proofs.FailLaws.{roomy-after}
 use Rattle.checks.specs.Given.{Rules, rulesOf}
 use Rattle.readying.proofs.ReadyLaws.{template-stands, some-rule, rule-form, ready-is, same-ready}
 use Rattle.readying.proofs.make_ready.Statement.{statement}

@@ -10,8 +10,8 @@ use borrow.Author.Needs.{needs}
 use denote.Ref.{now}
 use Rattle.syntax.specs.Checks.{WellFormed}
 use Rattle.fragments.specs.Pairs.{Pair, pairOf, treeOf}
-use Rattle.resolving.proofs.NeedLaws.{tree-formed, room-for}
-use Rattle.match_node.proofs.ReadyLaws.{known-is}
+use Rattle.rule_paths.proofs.NeedLaws.{tree-formed, room-for}
+use Rattle.preparing.proofs.ReadyLaws.{known-is}
 use Rattle.readying.proofs.ReadyLaws.{pieces-are, tells-are}
 use Rattle.readying.proofs.ready_pieces.Statement.{statement}
 use Rattle.readying.proofs.ready_pieces.Tie as tie

@@ -2,9 +2,8 @@
 -- Assumes nothing.
 use Rattle.rust_code.proofs.StandInLaws.{by-name, by-none, behind-prefix}
 use Rattle.parsing.proofs.PatternLaws.{places-of, count-of}
-use Rattle.words.specs.Texts.{hasPrefix}
+use Rattle.words.specs.Texts.{hasPrefix, standInPrefix}
 use mathlib.Core.Bool.{true, false}
-use Rattle.words.specs.Texts.{standInPrefix}
 use denote.Ref.{now}
 use Prim.Native.Nat.{_+_, _-_, _<_, _≤_}
 use mathlib.Core.List.{_++_}

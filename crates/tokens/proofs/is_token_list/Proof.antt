@@ -1,10 +1,9 @@
 -- `tokens::is_token_list` meets its contract.
 -- Assumes nothing.
 use Rattle.words.specs.Fields.{tokenLength}
-use Rattle.tokens.specs.Tokens.{isTokenWord}
+use Rattle.tokens.specs.Tokens.{isTokenWord, allTokenWords, totalLength}
 use native.Mathlib.Nat.{zero-add}
 use Rattle.tokens.proofs.Laws.{all-step, all-end, total-step, total-end, too-many, not-tokens, all-tokens}
-use Rattle.tokens.specs.Tokens.{allTokenWords, totalLength}
 use lib.ListN.{length, drop}
 use borrow.Author.Needs.{needs}
 use denote.Ref.{now}

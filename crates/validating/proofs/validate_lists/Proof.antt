@@ -1,8 +1,7 @@
 -- `validating::validate_lists` meets its contract.
 -- Assumes nothing.
-use Rattle.parsing.specs.Reading.{read}
+use Rattle.parsing.specs.Reading.{read, vars}
 use Rattle.parsing.proofs.ListLaws.{was-read, was-refused}
-use Rattle.parsing.specs.Reading.{vars}
 use Rattle.validating.specs.Pairs.{bothLists}
 use denote.Ref.{now}
 use Prim.Native.Nat.{_+_, _-_, _<_, _≤_}

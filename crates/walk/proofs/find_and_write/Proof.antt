@@ -7,7 +7,7 @@ use native.Mathlib.Omega.{arith}
 use lib.ListN.{length}
 use borrow.Author.Needs.{needs}
 use denote.Ref.{now}
-use Rattle.resolving.proofs.FailLaws.{roomy-after}
+use Rattle.rule_paths.proofs.FailLaws.{roomy-after}
 use Rattle.checks.specs.Given.{fileOf}
 use Rattle.parses.specs.Parses.{parsesOutcome}
 use Rattle.job_checks.specs.Checks.{Job}

@@ -6,7 +6,7 @@ use native.Mathlib.Omega.{arith}
 use lib.ListN.{length}
 use borrow.Author.Needs.{needs}
 use denote.Ref.{now}
-use Rattle.resolving.proofs.FailLaws.{roomy-after}
+use Rattle.rule_paths.proofs.FailLaws.{roomy-after}
 use Rattle.checks.specs.Given.{fileOf}
 use Rattle.job_checks.specs.Checks.{Job}
 use Rattle.job_answers.specs.Answers.{listIn}

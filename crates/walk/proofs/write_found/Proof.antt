@@ -15,7 +15,7 @@ use Rattle.candidates.specs.Candidates.{candidatesOf, candidateCount, keysOf}
 use Rattle.edits.specs.Answers.{answerOf, bytesOf}
 use Rattle.job_checks.specs.Checks.{Job}
 use Rattle.job_checks.proofs.JobLaws.{length-sorted}
-use Rattle.finding.specs.WalkCandidates.{wordsOf}
+use Rattle.walk_nodes.specs.WalkCandidates.{wordsOf}
 use Rattle.walk_answers.specs.Walk.{walkOf, walkMatches}
 use Rattle.walk_answers.proofs.FoundLaws.{list-found, count-found, checked-found, laid-part}
 use Rattle.walk.proofs.write_found.Statement.{statement}

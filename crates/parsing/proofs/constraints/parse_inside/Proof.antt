@@ -1,10 +1,9 @@
 -- `parsing::constraints::parse_inside` meets its contract.
 -- Assumes nothing.
 use native.Mathlib.Nat.{zero-add}
-use Rattle.parsing.proofs.Laws.{follows, behind-at}
+use Rattle.parsing.proofs.Laws.{follows, behind-at, run-end, goes, stops}
 use borrow.Author.Tests.{eq-eqb, ne-eqb}
 use Rattle.errors.specs.declared.Refusal.the-variants.{UnexpectedToken}
-use Rattle.parsing.proofs.Laws.{run-end, goes, stops}
 use Rattle.parsing.specs.Reading.{constraint, inside, isColon, isClosingBrace}
 use denote.Ref.{now}
 use native.Mathlib.Omega.{arith}

@@ -1,9 +1,8 @@
 -- `parsing::patterns::parse_braced` meets its contract.
 -- Assumes nothing.
 use Rattle.parsing.proofs.PatternLaws.{from-named}
-use Rattle.parsing.specs.Reading.{brace}
+use Rattle.parsing.specs.Reading.{brace, inside}
 use Rattle.parsing.proofs.Laws.{run-end, goes}
-use Rattle.parsing.specs.Reading.{inside}
 use denote.Ref.{now}
 use native.Mathlib.Omega.{arith}
 use Prim.Native.Nat.{_+_, _<_, _≤_}

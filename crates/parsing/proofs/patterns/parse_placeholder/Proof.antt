@@ -4,11 +4,9 @@ use mathlib.Core.List.{[]}
 use Rattle.errors.specs.declared.Refusal.the-variants.{NeitherNameNorBrace}
 use Rattle.parsing.proofs.ListLaws.{from-braced}
 use Rattle.parsing.proofs.PatternLaws.{from-named}
-use Rattle.parsing.proofs.Laws.{follows, behind-at}
-use Rattle.parsing.specs.Reading.{dollar, brace, isOpenBrace}
+use Rattle.parsing.proofs.Laws.{follows, behind-at, run-end, goes, stops}
+use Rattle.parsing.specs.Reading.{dollar, brace, isOpenBrace, isIdent}
 use borrow.Author.Tests.{eq-eqb, ne-eqb}
-use Rattle.parsing.proofs.Laws.{run-end, goes, stops}
-use Rattle.parsing.specs.Reading.{isIdent}
 use denote.Ref.{now}
 use native.Mathlib.Omega.{arith}
 use Prim.Native.Nat.{_+_, _<_, _≤_}

@@ -6,9 +6,8 @@ use Prim.Native.Nat.{ℕ}
 use native.Mathlib.Omega.{arith}
 use borrow.Author.Needs.{needs}
 use denote.Ref.{now}
-use Rattle.checks.specs.Given.{fileOf, rulesOf}
-use Rattle.match_node.specs.MatchNode.{foundRule}
-use Rattle.resolving.proofs.AskLaws.{left-rule, passed-rule}
+use Rattle.checks.specs.Given.{fileOf, rulesOf, foundRule}
+use Rattle.rule_paths.proofs.LeftLaws.{left-rule, passed-rule}
 use Rattle.rules.specs.declared.numbering.Found.the-variants.{At}
 use Rattle.rows.specs.Frames.{Grows}
 use Rattle.rows.proofs.BetweenLaws.{grows-none}

@@ -6,8 +6,7 @@ use Prim.Native.Nat.{ℕ}
 use borrow.Author.Needs.{needs}
 use denote.Ref.{now}
 use Rattle.words.specs.declared.buffer.Placed.the-variants as placed
-use Rattle.checks.specs.Given.{fileOf, rulesOf}
-use Rattle.match_node.specs.MatchNode.{isNodeOf}
+use Rattle.checks.specs.Given.{fileOf, rulesOf, isNodeOf}
 use Rattle.render_replace.proofs.TurnLaws.{none-at-hand, ended-some, ended-none}
 use Rattle.render_replace.proofs.turns.end_row.Statement.{statement}
 use Rattle.render_replace.proofs.turns.end_row.Tie as tie

@@ -7,8 +7,7 @@ use borrow.Author.Needs.{needs}
 use denote.Ref.{now}
 use lib.ListN.{length}
 use lib.Seq.{length-take-le}
-use Rattle.checks.specs.Given.{rulesOf}
-use Rattle.match_node.specs.MatchNode.{foundRule}
+use Rattle.checks.specs.Given.{rulesOf, foundRule}
 use Rattle.fragments.specs.Pairs.{pairAt, codeOf}
 use Rattle.nester.specs.Rows.{field}
 use Rattle.readying.specs.Ready.{ruleForm, TemplateOf}

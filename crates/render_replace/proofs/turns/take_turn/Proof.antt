@@ -7,7 +7,7 @@ use native.Mathlib.Omega.{arith}
 use borrow.Author.Needs.{needs}
 use denote.Ref.{now}
 use lib.ListN.{length}
-use Rattle.resolving.proofs.FailLaws.{roomy-after}
+use Rattle.rule_paths.proofs.FailLaws.{roomy-after}
 use Rattle.rows.specs.Rows.{World}
 use Rattle.render_replace.specs.declared.turns.Next.the-variants.{Row, Ends}
 use Rattle.render_replace.specs.declared.turns.Laid.the-variants as laid

@@ -6,7 +6,7 @@ use denote.Ref.{now}
 use Rattle.fragments.specs.Pairs.{Pair}
 use Rattle.fragments.proofs.PairLaws.{pair-is}
 use Rattle.resolving.specs.Resolving.{inRule}
-use Rattle.resolving.proofs.FailLaws.{roomy-after}
+use Rattle.rule_paths.proofs.FailLaws.{roomy-after}
 use Rattle.resolving.proofs.asking.ask_pair.Statement.{statement}
 use Rattle.resolving.proofs.asking.ask_pair.Tie as tie
 

@@ -5,8 +5,8 @@ use native.Mathlib.Omega.{arith}
 use borrow.Author.Tests.{eq-eqb, ne-eqb}
 use denote.Ref.{now}
 use Rattle.fragments.specs.Pairs.{Pair, pairOf}
-use Rattle.resolving.proofs.FailLaws.{left-present}
-use Rattle.resolving.proofs.AskLaws.{pattern-good, template-good}
+use Rattle.rule_paths.proofs.FailLaws.{left-present}
+use Rattle.rule_paths.proofs.LeftLaws.{pattern-good, template-good}
 use borrow.Author.Needs.{needs}
 use Rattle.resolving.proofs.asking.ask_rule.Statement.{statement}
 use Rattle.resolving.proofs.asking.ask_rule.Tie as tie

@@ -4,7 +4,7 @@ use mathlib.Core.Path.{sym, _∙_}
 use native.Mathlib.Omega.{arith}
 use denote.Ref.{now}
 use Rattle.fragments.specs.Pairs.{Pair, pairOf}
-use Rattle.resolving.proofs.FailLaws.{own-present, stand-in-present}
+use Rattle.rule_paths.proofs.FailLaws.{own-present, stand-in-present}
 use borrow.Author.Needs.{needs}
 use Rattle.resolving.proofs.asking.ask_template.Statement.{statement}
 use Rattle.resolving.proofs.asking.ask_template.Tie as tie

@@ -2,7 +2,7 @@
 -- Assumes nothing.
 use mathlib.Core.Path.{sym, _∙_}
 use denote.Ref.{now}
-use Rattle.resolving.proofs.AskLaws.{left-rule, passed-rule}
+use Rattle.rule_paths.proofs.LeftLaws.{left-rule, passed-rule}
 use borrow.Author.Needs.{needs}
 use Rattle.resolving.proofs.operation.ask.Statement.{statement}
 use Rattle.resolving.proofs.operation.ask.Tie as tie

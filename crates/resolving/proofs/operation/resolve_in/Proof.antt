@@ -5,7 +5,7 @@ use native.Mathlib.Nat.{le-refl}
 use denote.Ref.{now}
 use Rattle.rules.specs.declared.stages.Stage.the-variants.{TreesWithFacts}
 use Rattle.rules.proofs.StageLaws.{trees-pass}
-use Rattle.resolving.proofs.FailLaws.{roomy-after, not-true, not-false}
+use Rattle.rule_paths.proofs.FailLaws.{roomy-after, not-true, not-false}
 use Rattle.resolving.proofs.AskLaws.{resolve-refused, resolve-passes, resolve-fails}
 use borrow.Author.Needs.{needs}
 use Rattle.resolving.proofs.operation.resolve_in.Statement.{statement}

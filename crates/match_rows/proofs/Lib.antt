@@ -1,0 +1,3 @@
+-- Laws of the definitions of specs/, for this crate and those above.
+pub mod TableLaws
+pub mod RowLaws

@@ -1,0 +1,2 @@
+-- Laws of the definitions of specs/, for this crate and those above.
+pub mod MatchLaws

@@ -1,0 +1,2 @@
+pub mod RulePaths
+pub mod Needs
