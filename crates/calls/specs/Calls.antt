@@ -6,7 +6,7 @@ use mathlib.Core.Bool.{Bool, cond, not, _&&_, _||_}
 use mathlib.Core.List.{[], _∷_}
 use Rattle.syntax.specs.Trees.{Elems}
 use Rattle.syntax.specs.Accessors.{children, rest, numberOf, some, firstChild, findExpression}
-use Rattle.paths.specs.declared.tables.CallAt.{CallAt}
+use Rattle.facts.specs.declared.CallAt.{CallAt}
 use Rattle.captures.specs.Attempts.{Bound, Attempt, matched}
 use Rattle.captures.specs.Effects.{binding}
 use Rattle.matcher.specs.declared.file_facts.Derefs.{Derefs}

@@ -64,6 +64,9 @@ isFound (At r) = true
 abbrev pub isNodeOf : File → ℕ → Bool
 isNodeOf f node = nodeIn 1 4095 (elementAt node (tree (f .words)))
 
--- not "a range whose start is after its end"
+-- "a range whose start is after its end"
+abbrev pub isReversed : Restriction → Bool
+isReversed range = range .given && ltb (range .end) (range .start)
+
 abbrev pub isRange : Restriction → Bool
-isRange range = not (range .given && ltb (range .end) (range .start))
+isRange range = not (isReversed range)

@@ -13,13 +13,20 @@ ghost use Rattle.errors.specs.Refusals.{inTurn};
 ghost use Rattle.syntax.specs.Checks.{WellFormed};
 ghost use Rattle.facts.specs.Keys.{Indexed};
 ghost use Rattle.rules.specs.declared.stages.Stage.the-variants.{Forms};
-ghost use Rattle.checks.specs.Given.{fileOf, rulesOf, stage, treesStage, givenOutcome};
+ghost use Rattle.checks.specs.Given.{fileOf, rulesOf, stage, treesStage, givenOutcome, isReversed};
 
 // The range that matches are restricted to, where one is given.
 pub struct Restriction {
     pub given: bool,
     pub start: usize,
     pub end: usize,
+}
+
+// Whether it is a range whose start is after its end.
+pub fn is_reversed(range: Restriction) -> bool
+    ensures { λ r. ⌜ r ≡ isReversed range ⌝ }
+{
+    range.given & (range.end < range.start)
 }
 
 // 18 to 21 of the rules' trees and of the file's, the lowest of their numbers, then 17.

@@ -8,3 +8,16 @@ pub enum Owner {
     Pattern,
     Template,
 }
+
+// An element of a rule's tree as a path.
+pub enum PathAt {
+    NotResolved,
+    ResolvedTo(u32),
+}
+
+// An element of a rule's tree as a call that UFCS may match: its function, and its qualifier type where it has one.
+pub enum CallAt {
+    NoCall,
+    Call(u32),
+    TypedCall(u32, u32),
+}

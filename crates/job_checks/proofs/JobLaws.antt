@@ -1,7 +1,7 @@
 -- The checks of a job in turn, and what is known where they pass.
 -- Assumes nothing.
 use mathlib.Core.Path.{_≡_, sym, _∙_}
-use mathlib.Core.Bool.{Bool, true, false, not, _&&_, _||_, or-true}
+use mathlib.Core.Bool.{Bool, true, false, not, _||_, or-true}
 use mathlib.Core.List.{List, [], _∷_, _++_, map}
 use Prim.Native.Nat.{ℕ, _≤_}
 use lib.Dec.{ltb}
@@ -24,7 +24,7 @@ use Rattle.rules.specs.Forms.{any}
 use Rattle.rules.specs.Numbering.{rules}
 use Rattle.rule_paths.specs.RulePaths.{pairFails, pathsOutcome}
 use Rattle.rule_paths.proofs.FailLaws.{not-true, not-false}
-use Rattle.checks.specs.Given.{File, Rules, stage, givenOutcome, isRange}
+use Rattle.checks.specs.Given.{File, Rules, stage, givenOutcome, isReversed, isRange}
 use Rattle.checks.proofs.GivenLaws.{trees-accepted}
 use Rattle.candidates.specs.Candidates.{candidatesOf, candidateCount, anyBad, isTwice, keysOf, hasEqualNeighbours}
 use Rattle.candidates.proofs.CandidateLaws.{length-candidates, length-keys, named-low}
@@ -67,9 +67,6 @@ module _ (j : Job) (rules count : ℕ) (r : rules ≡ ruleCount j) (n : count �
   abbrev isOver : Bool
   isOver = ltb 16 rules || ltb 1024 count
 
-  abbrev isReversed : Bool
-  isReversed = j .range .given && ltb (j .range .end) (j .range .start)
-
   abbrev isBad : Bool
   isBad = anyBad (treeIn j) rules (candidatesIn j)
 
@@ -78,11 +75,11 @@ module _ (j : Job) (rules count : ℕ) (r : rules ≡ ruleCount j) (n : count �
   too-many h = sym (rw (← r, ← n, h))
 
   module _ (few : isOver ≡ false) where
-    pub bad-range : isReversed ≡ true → Refused NoSuchCandidate ≡ firstOf (take 2 (jobChecks j))
+    pub bad-range : isReversed (j .range) ≡ true → Refused NoSuchCandidate ≡ firstOf (take 2 (jobChecks j))
     unfolding firstOf
     bad-range h = sym (rw (← r, ← n, few, h, or-true isBad))
 
-    module _ (range : isReversed ≡ false) (b : Bool) (e : b ≡ not isBad) where
+    module _ (range : isReversed (j .range) ≡ false) (b : Bool) (e : b ≡ not isBad) where
       pub all-named : b ≡ true → Accepted ≡ firstOf (take 2 (jobChecks j))
       unfolding firstOf
       all-named h = sym (rw (← r, ← n, few, not-true isBad (sym h ∙ e), range))

@@ -94,7 +94,7 @@ fn check_candidates(
     if (16 < rules) | (1024 < count) {
         return Outcome::Refused(Refusal::TooManyRulesOrCandidates);
     }
-    if range.given & (range.end < range.start) {
+    if checks::is_reversed(range) {
         return Outcome::Refused(Refusal::NoSuchCandidate);
     }
     if candidates::are_named(tree, candidates, rules) {

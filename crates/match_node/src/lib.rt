@@ -35,7 +35,7 @@ fn is_askable(tree: &[u32], question: Question) -> bool
 {
     let node = question.node;
     let range = question.range;
-    if range.given & (range.end < range.start) {
+    if checks::is_reversed(range) {
         return false;
     }
     if node < 16384 {

@@ -5,10 +5,10 @@ use mathlib.Core.Bool.{Bool, true, false, cond, not, _&&_, false≢true}
 use Prim.Native.Nat.{ℕ, _-_}
 use lib.Dec.{eqb}
 use borrow.Author.Tests.{eq-eqb, ne-eqb}
-use Rattle.paths.specs.declared.tables.PathAt.{PathAt}
-use Rattle.paths.specs.declared.tables.PathAt.the-variants.{NotResolved, ResolvedTo}
-use Rattle.paths.specs.declared.tables.CallAt.{CallAt}
-use Rattle.paths.specs.declared.tables.CallAt.the-variants.{NoCall, Call, TypedCall}
+use Rattle.facts.specs.declared.PathAt.{PathAt}
+use Rattle.facts.specs.declared.PathAt.the-variants.{NotResolved, ResolvedTo}
+use Rattle.facts.specs.declared.CallAt.{CallAt}
+use Rattle.facts.specs.declared.CallAt.the-variants.{NoCall, Call, TypedCall}
 use Rattle.matcher.specs.Matcher.{isResolved, resolutionOf, isCall, functionOf, isTyped, typeOf}
 
 -- a path, and a call, by their words and by whether these are 0

@@ -9,10 +9,10 @@ use Rattle.words.specs.Fields.{wordAt}
 use Rattle.syntax.specs.Trees.{Elems, tree}
 use Rattle.syntax.specs.Accessors.{children, numberOf, some}
 use Rattle.siblings.specs.Siblings.{isNode}
-use Rattle.paths.specs.declared.tables.PathAt.{PathAt}
-use Rattle.paths.specs.declared.tables.PathAt.the-variants.{NotResolved, ResolvedTo}
-use Rattle.paths.specs.declared.tables.CallAt.{CallAt}
-use Rattle.paths.specs.declared.tables.CallAt.the-variants.{NoCall, Call, TypedCall}
+use Rattle.facts.specs.declared.PathAt.{PathAt}
+use Rattle.facts.specs.declared.PathAt.the-variants.{NotResolved, ResolvedTo}
+use Rattle.facts.specs.declared.CallAt.{CallAt}
+use Rattle.facts.specs.declared.CallAt.the-variants.{NoCall, Call, TypedCall}
 use Rattle.matcher.specs.declared.token_matching.Sheet.{Sheet}
 use Rattle.matcher.specs.declared.marks.Context.{Context}
 

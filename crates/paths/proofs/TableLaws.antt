@@ -20,8 +20,8 @@ use Rattle.facts.proofs.ListLaws.{list-low, list-indexed}
 use Rattle.paths.specs.Steps.{Side, resolutionAt, pathPlace}
 use Rattle.paths.specs.Resolved.{Note, later, lastNote, pathBy, typedBy, callBy}
 use Rattle.paths.specs.Tables.{noted, AtSiblings, HasFacts, TablesOf}
-use Rattle.paths.specs.declared.tables.PathAt.the-variants.{ResolvedTo}
-use Rattle.paths.specs.declared.tables.CallAt.the-variants.{Call, TypedCall}
+use Rattle.facts.specs.declared.PathAt.the-variants.{ResolvedTo}
+use Rattle.facts.specs.declared.CallAt.the-variants.{Call, TypedCall}
 
 -- ---- notes
 

@@ -12,10 +12,10 @@ use Rattle.facts.specs.Facts.{factsOf, factIndex}
 use Rattle.paths.specs.Steps.{Side, resolutionAt, flagsAt, isAssociated, pathPlace, step}
 use Rattle.paths.specs.declared.resolving.Step.{Step}
 use Rattle.paths.specs.declared.resolving.Step.the-variants.{Skips, Fails, Resolves, Enters}
-use Rattle.paths.specs.declared.tables.PathAt.{PathAt}
-use Rattle.paths.specs.declared.tables.PathAt.the-variants.{NotResolved, ResolvedTo}
-use Rattle.paths.specs.declared.tables.CallAt.{CallAt}
-use Rattle.paths.specs.declared.tables.CallAt.the-variants.{NoCall, Call, TypedCall}
+use Rattle.facts.specs.declared.PathAt.{PathAt}
+use Rattle.facts.specs.declared.PathAt.the-variants.{NotResolved, ResolvedTo}
+use Rattle.facts.specs.declared.CallAt.{CallAt}
+use Rattle.facts.specs.declared.CallAt.the-variants.{NoCall, Call, TypedCall}
 
 -- 22: "a path that must resolve has no fact"
 abbrev pub failsAt : Step → Bool → Bool

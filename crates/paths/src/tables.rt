@@ -1,23 +1,12 @@
 // What resolving found, by element: each table has one number an element, 0 where nothing was noted, else one more than the number noted last.
+use facts::CallAt;
+use facts::PathAt;
 use facts::index;
 use words::fields;
 ghost use mathlib.Core.Path.{_≡_};
 ghost use lib.ListN.{length, getD, replicate};
 ghost use Rattle.facts.specs.Keys.{Indexed};
 ghost use Rattle.paths.specs.Resolved.{pathBy, callBy};
-
-// An element as a path.
-pub enum PathAt {
-    NotResolved,
-    ResolvedTo(u32),
-}
-
-// An element as a call that UFCS may match: its function, and its qualifier type where it has one.
-pub enum CallAt {
-    NoCall,
-    Call(u32),
-    TypedCall(u32, u32),
-}
 
 // Every entry is 0.
 pub fn clear(table: &mut [u32])

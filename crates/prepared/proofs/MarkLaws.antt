@@ -22,10 +22,10 @@ use Rattle.paths.specs.Steps.{Side, resolutionAt, pathPlace}
 use Rattle.paths.specs.Resolved.{pathBy, typedBy, callBy}
 use Rattle.paths.specs.Tables.{TablesOf}
 use Rattle.paths.proofs.TableLaws.{path-is, call-is, typed, untyped}
-use Rattle.paths.specs.declared.tables.PathAt.{PathAt}
-use Rattle.paths.specs.declared.tables.PathAt.the-variants.{NotResolved, ResolvedTo}
-use Rattle.paths.specs.declared.tables.CallAt.{CallAt}
-use Rattle.paths.specs.declared.tables.CallAt.the-variants.{NoCall, Call, TypedCall}
+use Rattle.facts.specs.declared.PathAt.{PathAt}
+use Rattle.facts.specs.declared.PathAt.the-variants.{NotResolved, ResolvedTo}
+use Rattle.facts.specs.declared.CallAt.{CallAt}
+use Rattle.facts.specs.declared.CallAt.the-variants.{NoCall, Call, TypedCall}
 use Rattle.matcher.specs.Matcher.{mark}
 use Rattle.prepared.specs.Placeholders.{slotBy, placeholderAt}
 use Rattle.prepared.specs.Marks.{slotMark, pathMark, functionMark, typeMark}

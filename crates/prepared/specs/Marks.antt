@@ -3,10 +3,10 @@
 use Prim.Native.Nat.{ℕ, _+_}
 use mathlib.Core.Bool.{cond}
 use lib.Dec.{ltb}
-use Rattle.paths.specs.declared.tables.PathAt.{PathAt}
-use Rattle.paths.specs.declared.tables.PathAt.the-variants.{NotResolved, ResolvedTo}
-use Rattle.paths.specs.declared.tables.CallAt.{CallAt}
-use Rattle.paths.specs.declared.tables.CallAt.the-variants.{NoCall, Call, TypedCall}
+use Rattle.facts.specs.declared.PathAt.{PathAt}
+use Rattle.facts.specs.declared.PathAt.the-variants.{NotResolved, ResolvedTo}
+use Rattle.facts.specs.declared.CallAt.{CallAt}
+use Rattle.facts.specs.declared.CallAt.the-variants.{NoCall, Call, TypedCall}
 
 abbrev pub slotMark : ℕ → ℕ
 slotMark slot = cond (ltb slot 8) (slot + 1) 0

@@ -23,8 +23,8 @@ use Rattle.rule_paths.specs.RulePaths.{varsOf, patternOf, sideAt, treeFails, te
 use Rattle.rule_paths.specs.Needs.{Known}
 use Rattle.rule_paths.proofs.NeedLaws.{known-pattern, room-for}
 use Rattle.rule_paths.proofs.FailLaws.{own-present, stand-in-present}
-use Rattle.paths.specs.declared.tables.PathAt.{PathAt}
-use Rattle.paths.specs.declared.tables.CallAt.{CallAt}
+use Rattle.facts.specs.declared.PathAt.{PathAt}
+use Rattle.facts.specs.declared.CallAt.{CallAt}
 use Rattle.matcher.specs.declared.token_matching.Sheet.{Sheet}
 use Rattle.matcher.specs.declared.marks.Context.{Context}
 use Rattle.matcher.specs.Matcher.{Matcher, slotIn, pathIn, callIn, allowsIn, matcherOf}

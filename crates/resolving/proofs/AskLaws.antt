@@ -17,8 +17,8 @@ use Rattle.fragments.specs.Pairs.{Pair, pairs, treeOf, factsOf}
 use Rattle.rules.specs.declared.stages.Stage.the-variants.{TreesWithFacts}
 use Rattle.rules.specs.Forms.{any}
 use Rattle.rules.specs.Stages.{rulesOutcome}
-use Rattle.paths.specs.declared.tables.PathAt.{PathAt}
-use Rattle.paths.specs.declared.tables.CallAt.{CallAt}
+use Rattle.facts.specs.declared.PathAt.{PathAt}
+use Rattle.facts.specs.declared.CallAt.{CallAt}
 use Rattle.paths.specs.Resolved.{pathBy, callBy}
 use Rattle.paths.specs.Tables.{TablesOf}
 use Rattle.rule_paths.specs.RulePaths.{sideAt, treeFails, pairFails, pathsOutcome}

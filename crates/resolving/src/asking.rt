@@ -1,10 +1,10 @@
 // What an element of a rule is. The four tables are lent; they say nothing before, and are of the tree asked about after.
 use errors::Refusal;
+use facts::CallAt;
+use facts::PathAt;
 use fragments::pairs;
 use parsing::patterns;
 use paths::tables;
-use paths::tables::CallAt;
-use paths::tables::PathAt;
 use rules::forms::TemplateTree;
 use rules::numbering::Rule;
 use syntax::accessors;

@@ -21,10 +21,10 @@ use Rattle.rules.specs.declared.numbering.Found.the-variants.{NoSuchRule, At}
 use Rattle.rules.specs.declared.building.Built.{Built}
 use Rattle.rules.specs.declared.building.Built.the-variants.{Refused, Rules}
 use Rattle.ssr.specs.declared.rule_exports.BuiltRules.{BuiltRules}
-use Rattle.paths.specs.declared.tables.PathAt.{PathAt}
-use Rattle.paths.specs.declared.tables.PathAt.the-variants.{NotResolved, ResolvedTo}
-use Rattle.paths.specs.declared.tables.CallAt.{CallAt}
-use Rattle.paths.specs.declared.tables.CallAt.the-variants.{NoCall, Call, TypedCall}
+use Rattle.facts.specs.declared.PathAt.{PathAt}
+use Rattle.facts.specs.declared.PathAt.the-variants.{NotResolved, ResolvedTo}
+use Rattle.facts.specs.declared.CallAt.{CallAt}
+use Rattle.facts.specs.declared.CallAt.the-variants.{NoCall, Call, TypedCall}
 use Rattle.resolving.specs.declared.asking.Resolved.{Resolved}
 use Rattle.resolving.specs.declared.asking.Resolved.the-variants as resolved
 use Rattle.ssr.specs.declared.rule_exports.PathNumbers.{PathNumbers}

@@ -1,6 +1,6 @@
 // The operations on rules.
-use paths::tables::CallAt;
-use paths::tables::PathAt;
+use facts::CallAt;
+use facts::PathAt;
 use resolving::asking::Resolved;
 use resolving::operation;
 use rules::building;

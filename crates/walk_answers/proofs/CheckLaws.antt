@@ -1,7 +1,7 @@
 -- The checks of the walk beside those of the job on its list.
 -- Assumes nothing.
 use mathlib.Core.Path.{_≡_, refl, sym, ap, _∙_}
-use mathlib.Core.Bool.{Bool, true, false, not, _&&_, _||_, or-false}
+use mathlib.Core.Bool.{Bool, true, false, not, _||_, or-false}
 use mathlib.Core.List.{List, [], _∷_}
 use Prim.Native.Nat.{ℕ, _≤_, _<_}
 use native.Mathlib.Omega.{arith}
@@ -19,7 +19,7 @@ use Rattle.facts.specs.Keys.{Indexed}
 use Rattle.rule_paths.specs.RulePaths.{pathsOutcome}
 use Rattle.rule_paths.proofs.FailLaws.{not-true, not-false}
 use Rattle.candidates.specs.Candidates.{Candidate, candidateCount}
-use Rattle.checks.specs.Given.{File, givenOutcome, isRange}
+use Rattle.checks.specs.Given.{File, givenOutcome, isReversed, isRange}
 use Rattle.checks.specs.declared.Restriction.{Restriction}
 use Rattle.checks.proofs.GivenLaws.{trees-accepted}
 use Rattle.parses.specs.Parses.{parsesOutcome}
@@ -79,20 +79,17 @@ module _ (directory words bytes factText : List ℕ) (file : File) (parses parse
 -- ---- in turn
 
 module _ (j : Job) where
-  abbrev isReversed : Bool
-  isReversed = j .range .given && ltb (j .range .end) (j .range .start)
-
   module _ (rules′ : ℕ) (r : rules′ ≡ ruleCount j) where
     pub too-many-rules : ltb 16 rules′ ≡ true → Refused TooManyRulesOrCandidates ≡ firstOf (take 3 (walkChecks j))
     unfolding firstOf
     too-many-rules h = sym (rw (← r, h))
 
     module _ (few : ltb 16 rules′ ≡ false) where
-      pub bad-range : isReversed ≡ true → Refused NoSuchCandidate ≡ firstOf (take 3 (walkChecks j))
+      pub bad-range : isReversed (j .range) ≡ true → Refused NoSuchCandidate ≡ firstOf (take 3 (walkChecks j))
       unfolding firstOf
       bad-range h = sym (rw (← r, few, h))
 
-      module _ (range : isReversed ≡ false) (b : Bool) (e : b ≡ not (anyWithoutTemplate (rules (pairsIn j)))) where
+      module _ (range : isReversed (j .range) ≡ false) (b : Bool) (e : b ≡ not (anyWithoutTemplate (rules (pairsIn j)))) where
         pub all-templates : b ≡ true → Accepted ≡ firstOf (take 3 (walkChecks j))
         unfolding firstOf
         all-templates h = sym (rw (← r, few, range, not-true (anyWithoutTemplate (rules (pairsIn j))) (sym h ∙ e)))

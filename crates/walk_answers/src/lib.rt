@@ -22,7 +22,7 @@ pub fn check_rules(directory: &[u32], words: &[u32], bytes: &[u8], range: Restri
     if 16 < numbering::count_rules(directory, words, bytes) {
         return Outcome::Refused(Refusal::TooManyRulesOrCandidates);
     }
-    if range.given & (range.end < range.start) {
+    if checks::is_reversed(range) {
         return Outcome::Refused(Refusal::NoSuchCandidate);
     }
     if job_checks::have_templates(directory) {

@@ -4,7 +4,7 @@ use mathlib.Core.Path.{ap, _∙_}
 use denote.Ref.{now}
 use Prim.Native.Nat.{ℕ}
 use Rattle.paths.specs.Resolved.{callBy}
-use Rattle.paths.specs.declared.tables.CallAt.the-variants.{TypedCall}
+use Rattle.facts.specs.declared.CallAt.the-variants.{TypedCall}
 use Rattle.paths.proofs.TableLaws.{call-is, typed, untyped}
 use borrow.Author.Needs.{needs}
 use Rattle.paths.proofs.tables.call_at.Statement.{statement}
