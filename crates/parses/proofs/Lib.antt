@@ -2,3 +2,4 @@
 pub mod RangeLaws
 pub mod ParseLaws
 pub mod Examples
+pub mod MarkLaws

@@ -136,17 +136,17 @@ found-handed : (b : Bool) (p : Lookup) (rs : List NodeRange) → cond b (handed 
 found-handed true p rs h = sym (ap isHanded h)
 found-handed false p rs h = sym (ap isHanded h)
 
-found-is : (l : List ℕ) (f : Found) (p : Lookup) → foundIs l f ≡ p → isHanded p ≡ f .found
+pub found-is : (l : List ℕ) (f : Found) (p : Lookup) → foundIs l f ≡ p → isHanded p ≡ f .found
 found-is l f p h = found-handed (f .found) p (rangesOf (take (2 * f .count) (drop (f .at) l))) h
 
 -- ---- repetition
 
 module _ (l text : List ℕ) where
-  -- what is found of the first parse's kind and text behind it decides, or the parses behind
-  pub repeated-step : (d t : List ℕ) (w kind : ℕ) (f : Found) → 0 < length l → w ≡ parseWords l → d ≡ drop w l → kind ≡ parseKind l → t ≡ part text (startOf l) (endOf l)
-      → foundIs d f ≡ lookup (parsesOf d text) kind t → isRepeated (parsesOf l text) ≡ (f .found || isRepeated (parsesOf d text))
+  -- whether one behind the first parse has its kind and text decides, or the parses behind
+  pub repeated-step : (d : List ℕ) (w : ℕ) (b : Bool) → 0 < length l → w ≡ parseWords l → d ≡ drop w l
+      → b ≡ isHanded (lookup (parsesOf d text) (parseKind l) (part text (startOf l) (endOf l))) → isRepeated (parsesOf l text) ≡ (b || isRepeated (parsesOf d text))
   unfolding isRepeated
-  repeated-step d t w kind f h e₀ e₁ e₂ e₃ g = rw (parses-cons l text h, ← e₀, ← e₁, ← e₂, ← e₃, found-is d f (lookup (parsesOf d text) kind t) g)
+  repeated-step d w b h e₀ e₁ e₂ = rw (parses-cons l text h, ← e₀, ← e₁, ← e₂)
 
   pub repeated-none : length l ≤ 0 → isRepeated (parsesOf l text) ≡ false
   unfolding isRepeated

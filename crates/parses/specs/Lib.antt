@@ -1,3 +1,4 @@
 pub mod Ranges
 pub mod Parses
 pub mod Answers
+pub mod Marks

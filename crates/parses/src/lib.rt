@@ -1,4 +1,6 @@
 // The parses that are handed in: whether they are well-formed (28), the look-up by kind and text, and the node ranges.
+mod repeats; // repeats.rt: whether kind and text come twice
+
 use errors::Outcome;
 use errors::Refusal;
 use words::fields;
@@ -11,7 +13,7 @@ ghost use Rattle.errors.specs.declared.Outcome.the-variants.{Accepted};
 ghost use Rattle.words.specs.Fields.{startOf, endOf};
 ghost use Rattle.words.specs.Texts.{part};
 ghost use Rattle.parses.specs.Ranges.{rangesOf, isRange, areRanges, isAmong};
-ghost use Rattle.parses.specs.Parses.{parseWords, parseAt, parsesOf, isParse, isParseList, isOf, lookup, isRepeated, parsesOutcome};
+ghost use Rattle.parses.specs.Parses.{parseWords, parseAt, parsesOf, isParse, isParseList, isOf, lookup, parsesOutcome};
 ghost use Rattle.parses.specs.Answers.{foundIs};
 
 // Where the node ranges of a parse stand: at a word, and how many they are. Where no parse is found, both are 0.
@@ -142,30 +144,13 @@ pub fn find_parse(parses: &[u32], text: &[u8], kind: u32, t: &[u8]) -> Found
     }
 }
 
-// Whether a later parse has the kind and text of one.
-fn is_repeated(parses: &[u32], text: &[u8]) -> bool
-    requires { ⌜ isParseList (length (now text)) (now parses) ≡ true ⌝ }
-    ensures { λ r. ⌜ r ≡ isRepeated (parsesOf (now (parses .entry)) (now (text .entry))) ⌝ }
-{
-    let mut c = parses;
-    while 0 < c.len() {
-        let d = fields::tail(c, parse_words(c));
-        let later = find_parse(d, text, fields::parse_kind(c), parse_text(c, text));
-        if later.found {
-            return true;
-        }
-        c = d;
-    }
-    false
-}
-
 // 28, over a parse text.
 pub fn check_parses(parses: &[u32], text: &[u8]) -> Outcome
     ensures { λ r. ⌜ r ≡ parsesOutcome (now (parses .entry)) (now (text .entry)) ⌝ }
     ensures { λ r. ⌜ (r ≡ Accepted → isParseList (length (now (text .entry))) (now (parses .entry)) ≡ true) ⌝ }
 {
     if is_parse_list(parses, text.len()) {
-        if is_repeated(parses, text) {
+        if repeats::is_repeated(parses, text) {
             return Outcome::Refused(Refusal::MalformedParses);
         }
         return Outcome::Accepted;

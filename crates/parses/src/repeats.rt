@@ -1,0 +1,102 @@
+// Whether kind and text come twice among parses. Each kind and text has a mark; behind a parse whose mark no other has, none is looked at.
+use crate::find_parse;
+use crate::parse_text;
+use crate::parse_words;
+use words::fields;
+ghost use mathlib.Core.Path.{_≡_};
+ghost use mathlib.Core.Bool.{true};
+ghost use Prim.Native.Nat.{ℕ, _<_, _≤_};
+ghost use lib.ListN.{length, getD, drop};
+ghost use Rattle.words.specs.Fields.{startOf, endOf, parseKind};
+ghost use Rattle.words.specs.Texts.{part};
+ghost use Rattle.parses.specs.Parses.{parseWords, parsesOf, isParseList, isHanded, lookup, isRepeated};
+ghost use Rattle.parses.specs.Marks.{markOf, countedAt, Counted};
+
+// A byte as a number.
+fn wide(b: u8) -> usize
+    ensures { λ r. ⌜ (r ≡ b) × (r ≤ 255) ⌝ }
+{
+    b as usize
+}
+
+// The mark of a kind and a text.
+fn mark_of(kind: u32, t: &[u8]) -> usize
+    ensures { λ r. ⌜ r < 4096 ⌝ }
+    ensures { λ r. ⌜ r ≡ markOf kind (now (t .entry)) ⌝ }
+{
+    let mut mark = kind as usize % 4096;
+    let mut i = 0;
+    while i < t.len() {
+        mark = (mark * 31 + wide(t[i])) % 4096;
+        i += 1;
+    }
+    mark
+}
+
+// One more of a mark, up to two.
+fn count_mark(counts: &mut [u8], mark: usize)
+    requires { ⌜ mark < length (now counts) ⌝ }
+    ensures { λ _. ⌜ now (counts .exit) ≡ countedAt (now (counts .entry)) mark ⌝ }
+{
+    let n = counts[mark];
+    if n < 2 {
+        counts[mark] = n + 1;
+    }
+}
+
+// Counts the marks of all parses.
+fn count_marks(parses: &[u32], text: &[u8], counts: &mut [u8])
+    requires { ⌜ isParseList (length (now text)) (now parses) ≡ true ⌝ }
+    requires { ⌜ (length (now counts) ≡ 4096) × ((m : ℕ) → getD (now counts) m 0 ≡ 0) ⌝ }
+    ensures { λ _. ⌜ (length (now (counts .exit)) ≡ 4096) × Counted (now (counts .exit)) (parsesOf (now (parses .entry)) (now (text .entry))) ⌝ }
+{
+    let mut c = parses;
+    while 0 < c.len() {
+        let d = fields::tail(c, parse_words(c));
+        count_mark(counts, mark_of(fields::parse_kind(c), parse_text(c, text)));
+        c = d;
+    }
+}
+
+// Whether a parse behind the first has its kind and text.
+fn is_again(c: &[u32], d: &[u32], text: &[u8], counts: &[u8]) -> bool
+    requires { ⌜ (0 < length (now c)) × (now d ≡ drop (parseWords (now c)) (now c)) × (isParseList (length (now text)) (now d) ≡ true) ⌝ }
+    requires { ⌜ (length (now counts) ≡ 4096) × Counted (now counts) (parsesOf (now c) (now text)) ⌝ }
+    ensures { λ r. ⌜ r ≡ isHanded (lookup (parsesOf (now (d .entry)) (now (text .entry))) (parseKind (now (c .entry))) (part (now (text .entry)) (startOf (now (c .entry))) (endOf (now (c .entry))))) ⌝ }
+{
+    let kind = fields::parse_kind(c);
+    let t = parse_text(c, text);
+    let mark = mark_of(kind, t);
+    if counts[mark] < 2 {
+        return false;
+    }
+    let later = find_parse(d, text, kind, t);
+    later.found
+}
+
+// Whether a later parse has the kind and text of one, by the counts of their marks.
+fn is_repeated_by(parses: &[u32], text: &[u8], counts: &[u8]) -> bool
+    requires { ⌜ isParseList (length (now text)) (now parses) ≡ true ⌝ }
+    requires { ⌜ (length (now counts) ≡ 4096) × Counted (now counts) (parsesOf (now parses) (now text)) ⌝ }
+    ensures { λ r. ⌜ r ≡ isRepeated (parsesOf (now (parses .entry)) (now (text .entry))) ⌝ }
+{
+    let mut c = parses;
+    while 0 < c.len() {
+        let d = fields::tail(c, parse_words(c));
+        if is_again(c, d, text, counts) {
+            return true;
+        }
+        c = d;
+    }
+    false
+}
+
+// Whether a later parse has the kind and text of one.
+pub fn is_repeated(parses: &[u32], text: &[u8]) -> bool
+    requires { ⌜ isParseList (length (now text)) (now parses) ≡ true ⌝ }
+    ensures { λ r. ⌜ r ≡ isRepeated (parsesOf (now (parses .entry)) (now (text .entry))) ⌝ }
+{
+    let mut counts = [0u8; 4096];
+    count_marks(parses, text, &mut counts);
+    is_repeated_by(parses, text, &counts)
+}
