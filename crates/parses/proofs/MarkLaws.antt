@@ -20,7 +20,7 @@ use Rattle.parses.proofs.ParseLaws.{parses-cons, parses-none}
 
 -- ---- the mark of a text, byte by byte
 
-pub mark-step : (m : ℕ) (t : List ℕ) (i : ℕ) → i < length t → markFrom m (drop i t) ≡ markFrom ((m * 31 + getD t i 0) % 4096) (drop (i + 1) t)
+pub mark-step : (m : ℕ) (t : List ℕ) (i : ℕ) → i < length t → markFrom m (drop i t) ≡ markFrom ((m * 31 + getD t i 0) % 16384) (drop (i + 1) t)
 unfolding markFrom
 mark-step m t i h = rw (drop-cons t i 0 h, add-one)
 

@@ -10,11 +10,11 @@ use Rattle.parses.specs.Parses.{Parse}
 -- of a text, behind a first mark
 unfoldable pub markFrom : ℕ → List ℕ → ℕ
 markFrom m [] = m
-markFrom m (b ∷ t) = markFrom ((m * 31 + b) % 4096) t
+markFrom m (b ∷ t) = markFrom ((m * 31 + b) % 16384) t
 
 -- of a kind and a text
 abbrev pub markOf : ℕ → List ℕ → ℕ
-markOf kind t = markFrom (kind % 4096) t
+markOf kind t = markFrom (kind % 16384) t
 
 -- how many parses have a mark
 unfoldable pub marked : ℕ → List Parse → ℕ

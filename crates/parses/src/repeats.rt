@@ -21,13 +21,13 @@ fn wide(b: u8) -> usize
 
 // The mark of a kind and a text.
 fn mark_of(kind: u32, t: &[u8]) -> usize
-    ensures { λ r. ⌜ r < 4096 ⌝ }
+    ensures { λ r. ⌜ r < 16384 ⌝ }
     ensures { λ r. ⌜ r ≡ markOf kind (now (t .entry)) ⌝ }
 {
-    let mut mark = kind as usize % 4096;
+    let mut mark = kind as usize % 16384;
     let mut i = 0;
     while i < t.len() {
-        mark = (mark * 31 + wide(t[i])) % 4096;
+        mark = (mark * 31 + wide(t[i])) % 16384;
         i += 1;
     }
     mark
@@ -47,8 +47,8 @@ fn count_mark(counts: &mut [u8], mark: usize)
 // Counts the marks of all parses.
 fn count_marks(parses: &[u32], text: &[u8], counts: &mut [u8])
     requires { ⌜ isParseList (length (now text)) (now parses) ≡ true ⌝ }
-    requires { ⌜ (length (now counts) ≡ 4096) × ((m : ℕ) → getD (now counts) m 0 ≡ 0) ⌝ }
-    ensures { λ _. ⌜ (length (now (counts .exit)) ≡ 4096) × Counted (now (counts .exit)) (parsesOf (now (parses .entry)) (now (text .entry))) ⌝ }
+    requires { ⌜ (length (now counts) ≡ 16384) × ((m : ℕ) → getD (now counts) m 0 ≡ 0) ⌝ }
+    ensures { λ _. ⌜ (length (now (counts .exit)) ≡ 16384) × Counted (now (counts .exit)) (parsesOf (now (parses .entry)) (now (text .entry))) ⌝ }
 {
     let mut c = parses;
     while 0 < c.len() {
@@ -58,32 +58,34 @@ fn count_marks(parses: &[u32], text: &[u8], counts: &mut [u8])
     }
 }
 
-// Whether a parse behind the first has its kind and text.
-fn is_again(c: &[u32], d: &[u32], text: &[u8], counts: &[u8]) -> bool
+// Whether a parse behind the first has its kind and text; where marks are counted, none has where its mark is counted once.
+fn is_again(c: &[u32], d: &[u32], text: &[u8], counted: bool, counts: &[u8]) -> bool
     requires { ⌜ (0 < length (now c)) × (now d ≡ drop (parseWords (now c)) (now c)) × (isParseList (length (now text)) (now d) ≡ true) ⌝ }
-    requires { ⌜ (length (now counts) ≡ 4096) × Counted (now counts) (parsesOf (now c) (now text)) ⌝ }
+    requires { ⌜ (counted ≡ true → (length (now counts) ≡ 16384) × Counted (now counts) (parsesOf (now c) (now text))) ⌝ }
     ensures { λ r. ⌜ r ≡ isHanded (lookup (parsesOf (now (d .entry)) (now (text .entry))) (parseKind (now (c .entry))) (part (now (text .entry)) (startOf (now (c .entry))) (endOf (now (c .entry))))) ⌝ }
 {
     let kind = fields::parse_kind(c);
     let t = parse_text(c, text);
-    let mark = mark_of(kind, t);
-    if counts[mark] < 2 {
-        return false;
+    if counted {
+        let mark = mark_of(kind, t);
+        if counts[mark] < 2 {
+            return false;
+        }
     }
     let later = find_parse(d, text, kind, t);
     later.found
 }
 
-// Whether a later parse has the kind and text of one, by the counts of their marks.
-fn is_repeated_by(parses: &[u32], text: &[u8], counts: &[u8]) -> bool
+// Whether a later parse has the kind and text of one.
+fn is_repeated_by(parses: &[u32], text: &[u8], counted: bool, counts: &[u8]) -> bool
     requires { ⌜ isParseList (length (now text)) (now parses) ≡ true ⌝ }
-    requires { ⌜ (length (now counts) ≡ 4096) × Counted (now counts) (parsesOf (now parses) (now text)) ⌝ }
+    requires { ⌜ (counted ≡ true → (length (now counts) ≡ 16384) × Counted (now counts) (parsesOf (now parses) (now text))) ⌝ }
     ensures { λ r. ⌜ r ≡ isRepeated (parsesOf (now (parses .entry)) (now (text .entry))) ⌝ }
 {
     let mut c = parses;
     while 0 < c.len() {
         let d = fields::tail(c, parse_words(c));
-        if is_again(c, d, text, counts) {
+        if is_again(c, d, text, counted, counts) {
             return true;
         }
         c = d;
@@ -91,12 +93,23 @@ fn is_repeated_by(parses: &[u32], text: &[u8], counts: &[u8]) -> bool
     false
 }
 
-// Whether a later parse has the kind and text of one.
+// The same of many parses, by their marks.
+fn is_repeated_among(parses: &[u32], text: &[u8]) -> bool
+    requires { ⌜ isParseList (length (now text)) (now parses) ≡ true ⌝ }
+    ensures { λ r. ⌜ r ≡ isRepeated (parsesOf (now (parses .entry)) (now (text .entry))) ⌝ }
+{
+    let mut counts = [0u8; 16384];
+    count_marks(parses, text, &mut counts);
+    is_repeated_by(parses, text, true, &counts)
+}
+
+// The same; few parses are compared sooner than their marks are counted.
 pub fn is_repeated(parses: &[u32], text: &[u8]) -> bool
     requires { ⌜ isParseList (length (now text)) (now parses) ≡ true ⌝ }
     ensures { λ r. ⌜ r ≡ isRepeated (parsesOf (now (parses .entry)) (now (text .entry))) ⌝ }
 {
-    let mut counts = [0u8; 4096];
-    count_marks(parses, text, &mut counts);
-    is_repeated_by(parses, text, &counts)
+    if parses.len() < 512 {
+        return is_repeated_by(parses, text, false, text);
+    }
+    is_repeated_among(parses, text)
 }

@@ -16,7 +16,7 @@ use Rattle.parses.proofs.repeats.count_marks.Tie as tie
 
 abbrev Inv-loop : tie.InvT-loop
 Inv-loop parses text counts₀ c₀ counts c =
-    (isParseList (length text) c ≡ true) × (length counts ≡ 4096) × ((m : ℕ) → getD counts m 0 < 2 → marked m (parsesOf parses text) ≡ getD counts m 0 + marked m (parsesOf c text))
+    (isParseList (length text) c ≡ true) × (length counts ≡ 16384) × ((m : ℕ) → getD counts m 0 < 2 → marked m (parsesOf parses text) ≡ getD counts m 0 + marked m (parsesOf c text))
 
 abbrev μ-loop : tie.MeasureT-loop
 μ-loop parses text counts₀ c₀ counts c = length c

@@ -14,25 +14,23 @@ use Rattle.parses.proofs.MarkLaws.{not-again}
 use Rattle.parses.proofs.repeats.is_again.Statement.{statement}
 use Rattle.parses.proofs.repeats.is_again.Tie as tie
 
-slice-read : tie.Need-shared-slice-read-if1
+slice-read : tie.Need-shared-slice-read-if2
 slice-read c =
-    let s = c .before .before .before .before .before .before .before .before in
-    omega (arith, c .before .mark-of .ensures .0, s .pre .1 .0)
+    let s = c .before .before .before .before .before .before .before .before .before in
+    omega (arith, c .before .mark-of .ensures .0, s .pre .1 (c .before .before .if1 .taken) .0)
 
 returns : tie.Need-returns
 returns c =
-    let c₂ = c .before .before in let c₃ = c₂ .before in let c₄ = c₃ .before in let s = c₄ .before .before .before .before .before in let a = s .args in
-    let e = c₂ .mark-of .ensures .1 ∙ ap₂ markOf (c₄ .parse-kind .ensures) (c₃ .parse-text .ensures) in
-    rw (s .pre .0 .1) (not-again (now (a .c)) (now (a .text)) (s .pre .0 .0) (now (a .counts)) (s .pre .1 .1) (subst (λ (i : ℕ). getD (now (a .counts)) i 0 < 2) e (c .if1 .taken)))
-
-find-parse-requires : tie.Need-find-parse-requires
-find-parse-requires c κs = c .before .before .before .before .before .before .before .before .before .pre .0 .2
+    let c₂ = c .before .before in let c₃ = c₂ .before in let c₄ = c₃ .before in let c₅ = c₄ .before in let s = c₅ .before .before .before .before .before in
+    let a = s .args in let e = c₂ .mark-of .ensures .1 ∙ ap₂ markOf (c₅ .parse-kind .ensures) (c₄ .parse-text .ensures) in
+    rw (s .pre .0 .1)
+    (not-again (now (a .c)) (now (a .text)) (s .pre .0 .0) (now (a .counts)) (s .pre .1 (c₃ .if1 .taken) .1) (subst (λ (i : ℕ). getD (now (a .counts)) i 0 < 2) e (c .if2 .taken)))
 
 returns-2 : tie.Need-returns-2
 returns-2 c =
-    let c₄ = c .before .before .before .before in let c₅ = c₄ .before in let a = c₅ .before .before .before .before .before .args in
+    let c₂ = c .before .before in let c₃ = c₂ .before in let a = c₃ .before .before .before .before .before .args in
     sym (found-is (now (a .d)) (c .find-parse .result) _ (c .find-parse .ensures .0))
-    ∙ ap₂ (λ (k : ℕ) (t : List ℕ). isHanded (lookup (parsesOf (now (a .d)) (now (a .text))) k t)) (c₅ .parse-kind .ensures) (c₄ .parse-text .ensures)
+    ∙ ap₂ (λ (k : ℕ) (t : List ℕ). isHanded (lookup (parsesOf (now (a .d)) (now (a .text))) k t)) (c₃ .parse-kind .ensures) (c₂ .parse-text .ensures)
 
 pub is-again-spec : {M : Type 1} → statement M
 is-again-spec =
@@ -43,5 +41,5 @@ is-again-spec =
     (λ c κs. search needs)
     slice-read
     returns
-    find-parse-requires
+    (λ c κs. c .before .before .before .before .before .before .before .pre .0 .2)
     returns-2)

@@ -12,7 +12,7 @@ use Rattle.parses.proofs.repeats.mark_of.Statement.{statement}
 use Rattle.parses.proofs.repeats.mark_of.Tie as tie
 
 abbrev Inv-loop : tie.InvT-loop
-Inv-loop kind t mark₀ i₀ mark i = (mark < 4096) × (i ≤ length t) × (markOf kind t ≡ markFrom mark (drop i t))
+Inv-loop kind t mark₀ i₀ mark i = (mark < 16384) × (i ≤ length t) × (markOf kind t ≡ markFrom mark (drop i t))
 
 abbrev μ-loop : tie.MeasureT-loop
 μ-loop kind t mark₀ i₀ mark i = length t - i
@@ -25,7 +25,7 @@ loop-again c =
     let c₃ = c .before .before .before in let l = c₃ .loop in let a = c₃ .before .before .args in (
       omega arith,
       omega arith,
-      l .inv .2 ∙ mark-step (l .mark) (now (a .t)) (l .i) (omega arith) ∙ ap (λ (b : ℕ). markFrom ((l .mark * 31 + b) % 4096) (drop (l .i + 1) (now (a .t)))) (sym (c .wide .ensures .0)),
+      l .inv .2 ∙ mark-step (l .mark) (now (a .t)) (l .i) (omega arith) ∙ ap (λ (b : ℕ). markFrom ((l .mark * 31 + b) % 16384) (drop (l .i + 1) (now (a .t)))) (sym (c .wide .ensures .0)),
     )
 
 returns : tie.Need-returns Inv-loop μ-loop
