@@ -3,6 +3,7 @@ use crate::find_parse;
 use crate::parse_text;
 use crate::parse_words;
 use words::fields;
+use words::texts;
 ghost use mathlib.Core.Path.{_≡_};
 ghost use mathlib.Core.Bool.{true};
 ghost use Prim.Native.Nat.{ℕ, _<_, _≤_};
@@ -10,7 +11,7 @@ ghost use lib.ListN.{length, getD, drop};
 ghost use Rattle.words.specs.Fields.{startOf, endOf, parseKind};
 ghost use Rattle.words.specs.Texts.{part};
 ghost use Rattle.parses.specs.Parses.{parseWords, parsesOf, isParseList, isHanded, lookup, isRepeated};
-ghost use Rattle.parses.specs.Marks.{markOf, countedAt, Counted};
+ghost use Rattle.parses.specs.Marks.{markFrom, markOf, countedAt, Counted};
 
 // A byte as a number.
 fn wide(b: u8) -> usize
@@ -19,18 +20,36 @@ fn wide(b: u8) -> usize
     b as usize
 }
 
-// The mark of a kind and a text.
-fn mark_of(kind: u32, t: &[u8]) -> usize
+// The mark of bytes behind a first mark.
+fn mark_from(first: usize, t: &[u8]) -> usize
+    requires { ⌜ first < 16384 ⌝ }
     ensures { λ r. ⌜ r < 16384 ⌝ }
-    ensures { λ r. ⌜ r ≡ markOf kind (now (t .entry)) ⌝ }
+    ensures { λ r. ⌜ r ≡ markFrom first (now (t .entry)) ⌝ }
 {
-    let mut mark = kind as usize % 16384;
+    let mut mark = first;
     let mut i = 0;
     while i < t.len() {
         mark = (mark * 31 + wide(t[i])) % 16384;
         i += 1;
     }
     mark
+}
+
+// The mark of a kind and a text: texts may be long and many, so only the bytes at their ends count.
+fn mark_of(kind: u32, t: &[u8]) -> usize
+    ensures { λ r. ⌜ r < 16384 ⌝ }
+    ensures { λ r. ⌜ r ≡ markOf kind (now (t .entry)) ⌝ }
+{
+    let n = t.len();
+    let mut from = 0;
+    if 32 < n {
+        from = n - 32;
+    }
+    let first = (kind as usize % 16384 + n % 16384) % 16384;
+    mark_from(
+        mark_from(first, texts::part_of(t, 0, 32)),
+        texts::part_of(t, from, n),
+    )
 }
 
 // One more of a mark, up to two.

@@ -4,6 +4,7 @@
 mod checks;
 mod jobs;
 mod lists;
+mod parses;
 mod rules;
 mod table;
 mod timing;
@@ -42,6 +43,7 @@ pub fn run() -> Result<bool, String> {
         jobs::run(all_jobs),
         lists::run(&cases),
         trees::run(&cases),
+        parses::run(),
         rules::run(),
     ];
     Ok(equal.iter().all(|equal| *equal))

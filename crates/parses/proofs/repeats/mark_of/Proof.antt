@@ -1,50 +1,30 @@
 -- `parses::repeats::mark_of` meets its contract.
 -- Assumes nothing.
-use mathlib.Core.Path.{_≡_, refl, sym, ap, _∙_}
+use mathlib.Core.Path.{_≡_, _∙_}
+use mathlib.Core.Logic.{⊎-elim}
 use native.Mathlib.Omega.{arith}
-use lib.ListN.{length, drop}
-use Prim.Native.Nat.{ℕ, _<_, _≤_, _-_, _+_, _*_, _%_}
+use Prim.Native.Nat.{_-_}
+use lib.ListN.{length}
 use borrow.Author.Needs.{needs}
 use denote.Ref.{now}
-use Rattle.parses.specs.Marks.{markFrom, markOf}
-use Rattle.parses.proofs.MarkLaws.{mark-step, mark-end}
 use Rattle.parses.proofs.repeats.mark_of.Statement.{statement}
 use Rattle.parses.proofs.repeats.mark_of.Tie as tie
 
-abbrev Inv-loop : tie.InvT-loop
-Inv-loop kind t mark₀ i₀ mark i = (mark < 16384) × (i ≤ length t) × (markOf kind t ≡ markFrom mark (drop i t))
-
-abbrev μ-loop : tie.MeasureT-loop
-μ-loop kind t mark₀ i₀ mark i = length t - i
-
-loop-holds : tie.Need-loop-holds Inv-loop μ-loop
-loop-holds c = (omega arith, omega arith, refl)
-
-loop-again : tie.Need-loop-again Inv-loop μ-loop
-loop-again c =
-    let c₃ = c .before .before .before in let l = c₃ .loop in let a = c₃ .before .before .args in (
-      omega arith,
-      omega arith,
-      l .inv .2 ∙ mark-step (l .mark) (now (a .t)) (l .i) (omega arith) ∙ ap (λ (b : ℕ). markFrom ((l .mark * 31 + b) % 16384) (drop (l .i + 1) (now (a .t)))) (sym (c .wide .ensures .0)),
-    )
-
-returns : tie.Need-returns Inv-loop μ-loop
+returns : tie.Need-returns
 returns c =
-    let l = c .before .loop in let a = c .before .before .before .args in
-    (l .inv .0, sym (l .inv .2 ∙ mark-end (l .mark) (now (a .t)) (l .i) (omega arith)))
+    let c₁ = c .before in let c₂ = c₁ .before in let c₃ = c₂ .before in let c₄ = c₃ .before in
+    let from : c₄ .if1 .from ≡ length (now (c₄ .before .before .args .t)) - 32 =
+    ⊎-elim (λ h. omega (arith, h .0 .taken, h .1)) (λ h. omega (arith, h .0 .left, h .1)) (c₄ .if1 .came) in
+    (c .mark-from2 .ensures .0, c .mark-from2 .ensures .1 ∙ rw (c₁ .part-of2 .ensures, c₂ .mark-from .ensures .1, c₃ .part-of .ensures, from))
 
 pub mark-of-spec : {M : Type 1} → statement M
 mark-of-spec =
     tie.close
     (tie.spec
-    Inv-loop
-    μ-loop
-    loop-holds
-    (λ c. omega arith)
-    (λ c. omega arith)
+    (λ c. search needs)
+    (λ c. search needs)
     (λ c κs. search needs)
-    (λ c. omega (arith, c .wide .ensures .1))
-    (λ c. omega arith)
-    (λ c. omega arith)
-    loop-again
+    (λ c κs. search needs)
+    (λ c κs. search needs)
+    (λ c κs. search needs)
     returns)
