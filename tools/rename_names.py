@@ -175,11 +175,18 @@ def main(argv):
         return 1
     if check:
         return 0
+    all_names, crates = table, set(os.listdir(os.path.join(root, "crates")))
     for path in files(root, "crates/*/**/*.antt") + files(root, "crates/*/src/**/*.rt") + files(root, "crates/*/must-fail/*.edit") + files(root, "docs/**/*.md") + files(root, "README.md"):
         if "/docs/src/" in path or path.endswith("docs/PORT.md"):
             continue
         text = read(path)
         aliases = set(re.findall(r"(?m)^(?:ghost )?use Rattle\.\S+ as ([^\s;]+)", text))
+        # What comes from elsewhere keeps its name.
+        foreign = set()
+        for module, names in re.findall(r"(?m)^(?:ghost )?use ([^\s{]+)\.\{([^}]*)\}", text):
+            if module.split(".")[:1] != ["Rattle"] or module.split(".")[1] not in crates:
+                foreign |= {it.split(" as ")[0].strip() for it in names.split(",")}
+        table = {old: new for old, new in all_names.items() if old not in foreign}
         if path.endswith(".rt"):
             out, at = "", 0
             for a, b in clauses(text):

@@ -1,4 +1,5 @@
 // The answer of matching one node, and the buffer then.
+#![tactic(auto)]
 ghost use Rattle.std.specs.Prelude.{◌≡◌, List, [], ℕ, ◌≤◌, length};
 ghost use Rattle.words.specs.Buffer.{filled};
 ghost use Rattle.captures.specs.Attempts.{Attempt};

@@ -1,13 +1,13 @@
 -- The candidates of a list of words, one by one, and what naming a node and a rule says of them.
 -- Assumes nothing.
 use mathlib.Core.Path.{◌≡◌, refl, sym, ◌∙◌}
-use mathlib.Core.Bool.{true, false, not, and_false, or-true, true≢false}
+use mathlib.Core.Bool.{true, false, not, and-false, or-true, true≢false}
 use mathlib.Core.List.{List, [], ◌∷◌}
 use Prim.Native.Nat.{ℕ, ◌/◌, ◌%◌, ◌<◌, ◌≤◌}
 use native.Mathlib.Omega.{arith}
 use lib.Dec.{ltb}
 use lib.ListN.{length, drop, get_or}
-use borrow.Author.Tests.{ltb-true, le-ltb, not_false}
+use borrow.Author.Tests.{ltb-true, le-ltb, not-false}
 use Rattle.words.proofs.TestLaws.{low_or, and_both, or_neither}
 use Rattle.syntax.specs.Trees.{Elems, tree}
 use Rattle.syntax.specs.Accessors.{element_at, node_in}
@@ -68,7 +68,7 @@ bad_end t rules l h = rw (candidates_none l h)
 pub lone_bad : (t : Elems) (rules : ℕ) (l : List ℕ) → rules ≤ missing_rule → length l % 2 ≡ 1 → any_bad t rules (candidates_of l) ≡ true
 unfolding candidates_of any_bad
 lone_bad t rules [] few odd = absurd (omega arith)
-lone_bad t rules (a ∷ []) few odd = rw (le-ltb missing_rule rules few, and_false (node_in 1 4095 (element_at a t)))
+lone_bad t rules (a ∷ []) few odd = rw (le-ltb missing_rule rules few, and-false (node_in 1 4095 (element_at a t)))
 lone_bad t rules (a ∷ (b ∷ l)) few odd =
     rw (lone_bad t rules l few (omega arith), or-true (not (is_named t rules (candidate_at (a ∷ b ∷ l)))))
 
@@ -90,5 +90,5 @@ unfolding any_bad
 named_low l rules [] w h = tt
 named_low l rules (c ∷ cs) w h =
     let p = or_neither (not (is_named (tree l) rules c)) (any_bad (tree l) rules cs) h in
-    let q = and_both (node_in 1 4095 (element_at c.node (tree l))) (ltb c.rule rules) (not_false _ p.0) in
+    let q = and_both (node_in 1 4095 (element_at c.node (tree l))) (ltb c.rule rules) (not-false _ p.0) in
     (node_below l c.node w q.0, ltb-true _ _ q.1, named_low l rules cs w p.1)

@@ -1,7 +1,7 @@
 -- The keys of candidates in rising order: where no pair comes twice they are those of the set of pairs, by node and then rule.
 -- Assumes nothing.
 use mathlib.Core.Path.{◌≡◌, refl, sym, ap, ◌∙◌}
-use mathlib.Core.Bool.{Bool, true, false, cond, and_false}
+use mathlib.Core.Bool.{Bool, true, false, cond, and-false}
 use mathlib.Core.List.{List, [], ◌∷◌}
 use Prim.Native.Nat.{ℕ, suc, ◌+◌, ◌*◌, ◌<◌, ◌≤◌}
 use native.Mathlib.Omega.{arith}
@@ -51,7 +51,7 @@ module _ (rules : ℕ) (few : rules ≤ 16) where
 
     other-rule : (n r : ℕ) → (r ≡ c.rule → ⊥) → has l n r ≡ has (c ∷ l) n r
     unfolding has
-    other-rule n r d = rw (ne_eqb c.rule r (λ e. d (sym e)), and_false (eqb c.node n))
+    other-rule n r d = rw (ne_eqb c.rule r (λ e. d (sym e)), and-false (eqb c.node n))
 
     other_node : (n r : ℕ) → (n ≡ c.node → ⊥) → has l n r ≡ has (c ∷ l) n r
     unfolding has

@@ -1,4 +1,5 @@
 // What matching records. Document 01: "an array of eight bindings, by value, in pattern order".
+#![tactic(auto)]
 ghost use Rattle.std.specs.Prelude.{◌≡◌, true, false, List, ℕ, ◌+◌, ◌-◌, ◌≤◌, ◌<◌, length, take, drop};
 ghost use Rattle.words.specs.Buffer.{laid};
 ghost use Rattle.syntax.specs.Trees.{elems};

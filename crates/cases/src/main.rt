@@ -1,5 +1,6 @@
 // Document 01's examples that have an edit list: for each its letter, a space and the list in lower-case hexadecimal. What is handed in is
 // what a front end would hand in, laid out as docs/FORMAT.md says; kinds that 01 gives no number are those of crates/examples.
+#![tactic(auto)]
 use checks::Restriction;
 use edits::Edited;
 use libc::STDOUT_FILENO;

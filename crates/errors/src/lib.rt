@@ -1,4 +1,5 @@
 // The refusals of document 01, as an enum instead of the crate's message texts (docs/src/src/errors.rs).
+#![tactic(auto)]
 ghost use Rattle.std.specs.Prelude.{◌≡◌};
 ghost use Rattle.errors.specs.Refusals.{number_of, outcome_number, lowest_of};
 

@@ -1,7 +1,7 @@
 -- Which words are facts of a tree, from the front.
 -- Assumes nothing.
 use mathlib.Core.Path.{◌≡◌, refl, sym, ◌∙◌}
-use mathlib.Core.Bool.{Bool, true, false, ◌&&◌, and_false}
+use mathlib.Core.Bool.{Bool, true, false, ◌&&◌, and-false}
 use mathlib.Core.List.{List, [], ◌∷◌}
 use Prim.Native.Nat.{ℕ, ◌<◌, ◌≤◌}
 use native.Mathlib.Omega.{arith}
@@ -16,12 +16,12 @@ use Rattle.facts.proofs.FactLaws.{all_facts}
 
 and_cross : (a b c d : Bool) → ((a && b) && (c && d)) ≡ ((a && c) && (b && d))
 and_cross true true c d = refl
-and_cross true false c d = sym (and_false c)
+and_cross true false c d = sym (and-false c)
 and_cross false b c d = refl
 
 -- fewer words than four are no fact
 part_short : (l : List ℕ) → length l ≤ 3 → is_fact_part l ≡ false
-part_short l h = rw (get_or-eq_default l 0 h) (and_false (eqb (kind_at l 0) 9 && eqb (kind_at l 1) 10 && eqb (kind_at l 2) 10))
+part_short l h = rw (get_or-eq_default l 0 h) (and-false (eqb (kind_at l 0) 9 && eqb (kind_at l 1) 10 && eqb (kind_at l 2) 10))
 
 module _ (owner : Owner) (tree : Elems) (n : ℕ) where
   all-step : (l : List ℕ) → 0 < length l → all_facts owner tree n l ≡ (is_fact_part l && is_fact owner tree n (fact_at l) && all_facts owner tree n (drop 4 l))

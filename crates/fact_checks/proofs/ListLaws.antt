@@ -1,7 +1,7 @@
 -- A whole list of facts: too many, one that is no fact of the tree, or as steady as its index.
 -- Assumes nothing.
 use mathlib.Core.Path.{◌≡◌, refl, sym, ◌∙◌}
-use mathlib.Core.Bool.{Bool, true, false, not, ◌&&◌, and_false, and_assoc, true≢false}
+use mathlib.Core.Bool.{Bool, true, false, not, ◌&&◌, and-false, and_assoc, true≢false}
 use mathlib.Core.List.{List}
 use Prim.Native.Nat.{ℕ, ◌/◌, ◌<◌, ◌≤◌}
 use native.Mathlib.Omega.{arith}
@@ -22,7 +22,7 @@ drop_middle true b c d e h = rw h (and_assoc c d e)
 drop_middle false b c d e h = refl
 
 drop-first : (a b c d e : Bool) → (a && c) ≡ false → (a && b && c && d && e) ≡ false
-drop-first true b false d e h = rw (and_false b)
+drop-first true b false d e h = rw (and-false b)
 drop-first true b true d e h = absurd (true≢false h)
 drop-first false b c d e h = refl
 
@@ -30,7 +30,7 @@ module _ (owner : Owner) (words : List ℕ) (n : ℕ) (l : List ℕ) where
   -- too many facts
   pub list_many : 16383 < length l / 4 → is_fact_list owner (tree words) n l ≡ false
   unfolding is_fact_list
-  list_many h = rw (lt-leb (length (facts_of l)) 16383 (omega (arith, length_facts l)), and_false (are_fact_words l))
+  list_many h = rw (lt-leb (length (facts_of l)) 16383 (omega (arith, length_facts l)), and-false (are_fact_words l))
 
   -- words that are no facts of the tree
   pub list_other : all_facts owner (tree words) n l ≡ false → is_fact_list owner (tree words) n l ≡ false

@@ -10,7 +10,7 @@ use lib.Dec.{eqb, ltb}
 use lib.ListN.{length, get_or, take, drop, set, drop_of_length-le}
 use lib.Seq.{drop-cons, take-suc-set, take_all}
 use native.Mathlib.Numerals.{add-one}
-use borrow.Author.Tests.{eq-eqb, ne_eqb, ltb-true, lt-ltb, le-ltb, not_true}
+use borrow.Author.Tests.{eq-eqb, ne_eqb, ltb-true, lt-ltb, le-ltb, not-true}
 use Rattle.sorting.specs.Sorted.{insert, sort, below, count, From, Rising}
 use Rattle.sorting.proofs.Laws.{insert-nil, insert_low, insert_high, sort_rising, count-sort, length-sort, below-after, high_after, low_before, count_none, count_same, count-other, count_at_lem, count-place}
 use Rattle.facts.specs.Facts.{Fact, facts_of, fact_index, has_repeated, has_gap}
@@ -109,8 +109,8 @@ steady_exactly fs w h =
     rw (repeated_keys fs w, gap_keys fs fs w w, once, filled))
     (λ t.
     let p = and_both (not (has_repeated fs)) (not (has_gap fs fs)) t in
-    let once = repeats_once (keys_of fs) (sym (repeated_keys fs w) ∙ not_true _ p.0) in
-    let filled = gaps-filled (keys_of fs) (keys_of fs) (sym (gap_keys fs fs w w) ∙ not_true _ p.1) in
+    let once = repeats_once (keys_of fs) (sym (repeated_keys fs w) ∙ not-true _ p.0) in
+    let filled = gaps-filled (keys_of fs) (keys_of fs) (sym (gap_keys fs fs w w) ∙ not-true _ p.1) in
     steady_keys_lem 0 (sort es) ∙ has_steady ks rises (λ k. omega (arith, once k, counts k)) (λ k later c. omega (arith, counts (k - 1), filled k later (omega (arith, counts k)))))
   where
     es : List ℕ

@@ -7,7 +7,7 @@ use mathlib.Core.List.{List, [], ◌∷◌}
 use Prim.Native.Nat.{ℕ, zero, suc, ◌+◌, ◌-◌, ◌<◌, ◌≤◌}
 use native.Mathlib.Omega.{arith}
 use lib.Dec.{eqb, ltb}
-use borrow.Author.Tests.{eqb-true, eqb-false, eq-eqb, ne_eqb, ltb-true, ltb-false, lt-ltb, le-ltb, not_true, not_false}
+use borrow.Author.Tests.{eqb-true, eqb-false, eq-eqb, ne_eqb, ltb-true, ltb-false, lt-ltb, le-ltb, not-true, not-false}
 use Rattle.sorting.specs.Sorted.{count, From, Rising}
 use Rattle.sorting.proofs.Laws.{from_less, count_none, count_same, count-other}
 use Rattle.facts.specs.Keys.{is_later_key}
@@ -65,7 +65,7 @@ gaps-filled all (x ∷ l) h k later c =
     same_or x k
     (λ e.
     let n : not (ltb 0 (count (k - 1) all)) ≡ false = rw (e, later) at p.0 in
-    ltb-true _ _ (not_false _ n))
+    ltb-true _ _ (not-false _ n))
     (λ e. gaps-filled all l p.1 k later (omega (arith, count-other k x l e)))
 
 pub filled-gaps : (all l : List ℕ) → Filled all l → gaps all l ≡ false
@@ -101,7 +101,7 @@ step_of next k l h =
     let p = and_both (not (eqb (k + 1) next) && (not (is_later_key k) || eqb k next)) (steady_keys (k + 1) l) h in
     let q = and_both (not (eqb (k + 1) next)) (not (is_later_key k) || eqb k next) p.0 in
     record {
-      apart = eqb-false _ _ (not_true _ q.0);
+      apart = eqb-false _ _ (not-true _ q.0);
       follows = λ e. eqb-true k next (or_second (not (is_later_key k)) (eqb k next) (rw e) q.1);
       rest = p.1;
     }

@@ -1,4 +1,5 @@
 // Facts: their index, and the look-up by sort, element and step or module.
+#![tactic(auto)]
 pub mod index; // index.rt: the facts in the order of their keys: repeated ones, gaps, and the look-up
 
 // The tree that facts stand on.

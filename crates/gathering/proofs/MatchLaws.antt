@@ -9,7 +9,7 @@ use native.Mathlib.Omega.{arith}
 use lib.Dec.{ltb}
 use lib.ListN.{length, get_or, set, length-set, drop_of_length-le}
 use lib.Seq.{drop-cons}
-use borrow.Author.Tests.{ltb-true, not_false}
+use borrow.Author.Tests.{ltb-true, not-false}
 use Rattle.words.proofs.TestLaws.{same_or, and_both, or_neither}
 use Rattle.sorting.specs.Sorted.{sort, count}
 use Rattle.sorting.proofs.Laws.{count-sort, count-other, count-place}
@@ -42,7 +42,7 @@ module _ (t : Elems) (rules : ℕ) (few : rules ≤ 16) (k : ℕ) where
       let p = or_neither (not (is_named t rules c)) (any_bad t rules cs) h in
       same_or (key_of c) k
       (λ e.
-      let q = and_both (node_in 1 4095 (element_at c.node t)) (ltb c.rule rules) (not_false _ p.0) in
+      let q = and_both (node_in 1 4095 (element_at c.node t)) (ltb c.rule rules) (not-false _ p.0) in
       let r : c.rule < rules = ltb-true _ _ q.1 in
       let n : k / 16 ≡ c.node = omega arith in
       (rw n q.0, omega arith))

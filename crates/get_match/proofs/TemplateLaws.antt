@@ -1,7 +1,7 @@
 -- Whether a template's paths can be rendered: by the number noted for an element, and element by element.
 -- Assumes nothing.
 use mathlib.Core.Path.{◌≡◌, refl, sym, ◌∙◌}
-use mathlib.Core.Bool.{Bool, true, false, not, ◌||◌, and_false}
+use mathlib.Core.Bool.{Bool, true, false, not, ◌||◌, and-false}
 use mathlib.Core.List.{List}
 use Prim.Native.Nat.{ℕ, zero, suc, ◌+◌, ◌-◌, ◌<◌}
 use native.Mathlib.Numerals.{add-one}
@@ -35,5 +35,5 @@ module _ (x : Side) (root : Elems) («module» n e : ℕ) (facts paths calls : L
   unfolding renders_below
   renders_not h zero k = absurd (omega arith)
   renders_not h (suc m) k =
-      same_or e m (λ s. let at = rw s at (last ∙ h) in rw at (and_false (renders_below m x root «module»)))
+      same_or e m (λ s. let at = rw s at (last ∙ h) in rw at (and-false (renders_below m x root «module»)))
       (λ d. rw (renders_not h m (omega arith)))

@@ -1,1 +1,3 @@
 // What a job answers, and demand 3.
+
+#![tactic(auto)]

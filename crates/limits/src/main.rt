@@ -1,4 +1,5 @@
 // The limits of trees and facts, and the two shapes that a stack could fail on: for each what it is, and the number that it gets.
+#![tactic(auto)]
 use libc::STDOUT_FILENO;
 use ssr::{ssr_check_file, ssr_check_rule_tree};
 use std::num::{wrapping_add_u32, wrapping_sub_u32, wrapping_sub_usize};

@@ -8,7 +8,7 @@ use Prim.Native.Nat.{ℕ, suc, ◌+◌, ◌-◌, ◌*◌, ◌≤◌, ◌<◌}
 use native.Mathlib.Omega.{arith}
 use lib.Dec.{eqb, leb}
 use lib.ListN.{length, take, drop, length-drop}
-use borrow.Author.Tests.{leb-true, eqb-true, not_true}
+use borrow.Author.Tests.{leb-true, eqb-true, not-true}
 use Rattle.words.specs.Buffer.{laid}
 use Rattle.words.proofs.TestLaws.{and_both}
 use Rattle.syntax.specs.Trees.{Elems, elems}
@@ -82,7 +82,7 @@ module _ (x : Matcher) (pe : ℕ) (ps : List ℕ) (at : ℕ) (ce : ℕ) (cs : Li
     is_before = (and_both before (not (has_placeholder_name x (skip_trivia Pat))) (sym goes_by ∙ is_on)).0
 
     is_plain : has_placeholder_name x (skip_trivia Pat) ≡ false
-    is_plain = not_true (has_placeholder_name x (skip_trivia Pat)) (and_both before (not (has_placeholder_name x (skip_trivia Pat))) (sym goes_by ∙
+    is_plain = not-true (has_placeholder_name x (skip_trivia Pat)) (and_both before (not (has_placeholder_name x (skip_trivia Pat))) (sym goes_by ∙
         is_on)).1
 
     found_is_lem : elems (ce + f.c) (drop (f.c * 3) cs) ≡ partner x (elems ce cs) (skip_trivia Pat)

@@ -7,7 +7,7 @@ use Prim.Native.Nat.{ℕ, suc, ◌+◌, ◌*◌, ◌≤◌, ◌<◌}
 use native.Mathlib.Omega.{arith}
 use lib.Dec.{eqb, leb}
 use lib.ListN.{length, drop, length-drop}
-use borrow.Author.Tests.{eqb-true, eq-eqb, le-leb, not_true}
+use borrow.Author.Tests.{eqb-true, eq-eqb, le-leb, not-true}
 use Rattle.words.proofs.TestLaws.{and_both}
 use Rattle.syntax.specs.Trees.{Elems, none, token, node, elems}
 use Rattle.syntax.specs.Accessors.{rest, some}
@@ -182,7 +182,7 @@ module _ (x : Matcher) (pe : ℕ) (ps : List ℕ) (at : ℕ) (ce : ℕ) (cs : Li
         pair_on = four.0
 
         open_before : (before ≡ true) × (has_placeholder_name x (skip_trivia Pat) ≡ false)
-        open_before = let g = and_both before _ (sym goes ∙ four.0) in (g.0, ap (has_placeholder_name x) (sym at_q) ∙ not_true _ g.1)
+        open_before = let g = and_both before _ (sym goes ∙ four.0) in (g.0, ap (has_placeholder_name x) (sym at_q) ∙ not-true _ g.1)
 
         pub pair_node : is_a_node (skip_trivia Pat) ≡ true
         pair_node = ap is_a_node (sym asked_is) ∙ four.1

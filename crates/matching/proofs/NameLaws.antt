@@ -9,7 +9,7 @@ use native.Mathlib.Omega.{arith}
 use lib.Dec.{leb, ltb}
 use lib.ListN.{length, take, drop, length-drop}
 use lib.Seq.{take_at, drop_at, length-take-le}
-use borrow.Author.Tests.{leb-true, ltb-false, not_true, not_false}
+use borrow.Author.Tests.{leb-true, ltb-false, not-true, not-false}
 use Rattle.words.proofs.TestLaws.{and_both}
 use Rattle.words.specs.Buffer.{laid}
 use Rattle.syntax.specs.Trees.{Elems, none, token, node, elems}
@@ -83,7 +83,7 @@ unfolding by_name
 by_ends leaves f x ps cs none d h = refl
 by_ends leaves f x ps cs (token i k s e r) d h = absurd (true≢false h)
 by_ends leaves f x ps cs (node i k s e ds r) d h = ap (λ (b : Bool). cond b (matched []) (and_then (field_by_name leaves f x ps cs (node i k s e ds r)
-    d) (by_name leaves f x ps cs r (past (node i k s e ds r) d)))) (not_false (has_placeholder_name x (node i k s e ds r)) h)
+    d) (by_name leaves f x ps cs r (past (node i k s e ds r) d)))) (not-false (has_placeholder_name x (node i k s e ds r)) h)
 
 by_more : (leaves : Bool) (f : Elems → Elems → Attempt) (x : Matcher) (ps cs q d : Elems) → (some q && not (has_placeholder_name x q)) ≡ true
     → by_name leaves f x ps cs q d ≡ and_then (field_by_name leaves f x ps cs q d) (by_name leaves f x ps cs (rest q) (past q d))
@@ -91,7 +91,7 @@ unfolding by_name
 by_more leaves f x ps cs none d h = absurd (false≢true h)
 by_more leaves f x ps cs (token i k s e r) d h = refl
 by_more leaves f x ps cs (node i k s e ds r) d h = ap (λ (b : Bool). cond b (matched []) (and_then (field_by_name leaves f x ps cs (node i k s e ds r)
-    d) (by_name leaves f x ps cs r (past (node i k s e ds r) d)))) (not_true (has_placeholder_name x (node i k s e ds r)) h)
+    d) (by_name leaves f x ps cs r (past (node i k s e ds r) d)))) (not-true (has_placeholder_name x (node i k s e ds r)) h)
 
 module _ (x : Matcher) (pe : ℕ) (ps : List ℕ) (at : ℕ) (ce : ℕ) (cs : List ℕ) (by : ℕ) (leaves : Bool) (s : State) (out : List ℕ) (q : List ℕ) (q-is
     : q ≡ drop (at * 3) ps)

@@ -1,7 +1,7 @@
 -- What the rule says of the pattern's element that words begin with, by the number that stands beside them.
 -- Assumes nothing.
 use mathlib.Core.Path.{◌≡◌, refl, sym, ap, ◌∙◌}
-use mathlib.Core.Bool.{Bool, true, false, ◌&&◌, ◌||◌, and_false, false≢true}
+use mathlib.Core.Bool.{Bool, true, false, ◌&&◌, ◌||◌, and-false, false≢true}
 use mathlib.Core.List.{List}
 use Prim.Native.Nat.{ℕ, ◌+◌, ◌*◌, ◌≤◌, ◌<◌}
 use lib.Dec.{ltb}
@@ -29,7 +29,7 @@ one_short i j l k h = by (ltb (length l) 3) refl
   where
     by : (b : Bool) → ltb (length l) 3 ≡ b → (some (elems i l) && some (elems j k)) ≡ false
     by true e = rw (some_short i l (ltb-true _ _ e))
-    by false e = rw (some_short j k (ltb-true _ _ (rw (e) at h))) (and_false (some (elems i l)))
+    by false e = rw (some_short j k (ltb-true _ _ (rw (e) at h))) (and-false (some (elems i l)))
 
 pub both_long : (l k : List ℕ) → (ltb (length l) 3 || ltb (length k) 3) ≡ false → (3 ≤ length l) × (3 ≤ length k)
 both_long l k h = by (ltb (length l) 3) refl

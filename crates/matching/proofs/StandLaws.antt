@@ -2,7 +2,7 @@
 -- that were passed.
 -- Assumes nothing.
 use mathlib.Core.Path.{◌≡◌, refl, sym, ap, ◌∙◌, subst}
-use mathlib.Core.Bool.{Bool, true, false, cond, not, ◌&&◌, and_false}
+use mathlib.Core.Bool.{Bool, true, false, cond, not, ◌&&◌, and-false}
 use mathlib.Core.List.{List, [], ◌∷◌, ◌++◌}
 use Prim.Native.Nat.{ℕ, ◌+◌, ◌≤◌}
 use native.Mathlib.Nat.{add-zero}
@@ -82,10 +82,10 @@ first_false : (a l b k d : Bool) → a ≡ false → ((a && l) && b && not k && 
 first_false a l b k d e = rw (e)
 
 last_false : (a b k d : Bool) → d ≡ false → (a && b && not k && d) ≡ false
-last_false a b k d e = rw (e) (and_false (a && b && not k))
+last_false a b k d e = rw (e) (and-false (a && b && not k))
 
 token_false : (a b k d : Bool) → k ≡ true → (a && b && not k && d) ≡ false
-token_false a b k d e = rw (e, and_false (a && b))
+token_false a b k d e = rw (e, and-false (a && b))
 
 -- ---- what stands, taken apart at the pattern's next sibling
 

@@ -2,7 +2,7 @@
 -- and no byte is between them.
 -- Assumes nothing.
 use mathlib.Core.Path.{◌≡◌, refl, sym, ap, ◌∙◌}
-use mathlib.Core.Bool.{Bool, true, false, not, ◌&&◌, ◌||◌, and_false, and-true}
+use mathlib.Core.Bool.{Bool, true, false, not, ◌&&◌, ◌||◌, and-false, and-true}
 use mathlib.Core.List.{List, [], ◌∷◌, map}
 use Prim.Native.Nat.{ℕ, suc, ◌+◌, ◌*◌, ◌<◌, ◌≤◌}
 use native.Mathlib.Omega.{arith}
@@ -20,7 +20,7 @@ no_range : (start end x : ℕ) (ps : List Part) → start < x → has_range star
 unfolding has_range
 no_range start end x [] h = refl
 no_range start end x (p ∷ ps) h =
-    rw (ne_eqb x start (λ e. omega arith), and_false p.isPlaceholder) (no_range start end (x + p.length) ps (omega arith))
+    rw (ne_eqb x start (λ e. omega arith), and-false p.isPlaceholder) (no_range start end (x + p.length) ps (omega arith))
 
 -- an empty placeholder's part stands at x, behind empty parts only
 abbrev pub is_followed : ℕ → List Part → Bool
@@ -38,11 +38,11 @@ module _ (x n : ℕ) (ps : List Part) where
   followed b =
       same_or n 0
       (λ e. let f : x + n ≡ x = omega arith in rw (eq-eqb n 0 e, f, eq-eqb x x refl, and-true b, and-true b))
-      (λ e. rw (ne_eqb n 0 e, ne_eqb (x + n) x (λ f. omega arith), and_false (b && eqb x x)) (no_range x x (x + n) ps (omega arith)))
+      (λ e. rw (ne_eqb n 0 e, ne_eqb (x + n) x (λ f. omega arith), and-false (b && eqb x x)) (no_range x x (x + n) ps (omega arith)))
 
 -- the node ranges may be looked at last
 pub test_order : (a b c : Bool) → (a && not b && not c) ≡ ((a && not c) && not b)
-test_order true true c = sym (and_false (not c))
+test_order true true c = sym (and-false (not c))
 test_order true false c = sym (and-true (not c))
 test_order false b c = refl
 

@@ -1,4 +1,5 @@
 // Parentheses: which placeholders of a first rendering require them, and putting them in where the rendering stands.
+#![tactic(auto)]
 ghost use Rattle.std.specs.Prelude.{◌≡◌, ◌&&◌, not, map, ◌+◌, ◌-◌, ◌*◌, ◌≤◌, eqb, length, take, drop};
 ghost use Rattle.words.specs.Buffer.{laid};
 ghost use Rattle.parses.specs.Ranges.{ranges_of, is_among};

@@ -1,4 +1,5 @@
 // The parses that are handed in: the look-up by kind and text, and the node ranges.
+#![tactic(auto)]
 ghost use Rattle.std.specs.Prelude.{◌≡◌, true, ◌+◌, ◌*◌, ◌≤◌, length};
 ghost use Rattle.words.specs.Fields.{start_of, end_of};
 ghost use Rattle.words.specs.Texts.{part};

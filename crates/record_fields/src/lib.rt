@@ -1,4 +1,5 @@
 // The fields of record lists by name. Without a heap there is no map: a name is looked for among the code's siblings, or the pattern's.
+#![tactic(auto)]
 ghost use Rattle.std.specs.Prelude.{◌≡◌, ℕ, ◌+◌, ◌*◌, ◌≤◌, length, drop};
 ghost use Rattle.syntax.specs.Trees.{elems, tree};
 ghost use Rattle.matcher.specs.FileFacts.{FileOf};

@@ -1,1 +1,3 @@
 // The text of each kept match.
+
+#![tactic(auto)]

@@ -1,6 +1,7 @@
 // Runs a stored sample of judged operations through the library, and says how many of its answers are the judged ones.
 // The sample, crates/replay/stdin, is generated and has no texts but the generator's own. This made it:
 //   sh oracle/compare/run sample 1 440 > crates/replay/stdin
+#![tactic(auto)]
 use libc::STDOUT_FILENO;
 use replaying::{answers, records};
 

@@ -1,7 +1,7 @@
 -- What a look-up says: the kinds that are parsed, and the node ranges that are found.
 -- Assumes nothing.
 use mathlib.Core.Path.{◌≡◌, ◌∙◌}
-use mathlib.Core.Bool.{true, false, ◌||◌, and_false}
+use mathlib.Core.Bool.{true, false, ◌||◌, and-false}
 use mathlib.Core.List.{List, [], ◌∷◌}
 use Prim.Native.Nat.{ℕ, ◌+◌, ◌-◌, ◌*◌, ◌<◌, ◌≤◌}
 use native.Mathlib.Omega.{arith}
@@ -28,7 +28,7 @@ pub kind-other : (kind : ℕ) → (ltb kind 64 || ltb 2047 kind) ≡ true → is
 kind-other kind h =
     low_or kind 64 (λ l. rw (lt-leb 64 kind l)) (λ l.
     let m = ltb-true 2047 kind (or_second (ltb kind 64) (ltb 2047 kind) (le-ltb kind 64 l) h) in
-    rw (lt-leb kind 2047 m) (and_false (leb 64 kind)))
+    rw (lt-leb kind 2047 m) (and-false (leb 64 kind)))
 
 -- ---- the ranges
 

@@ -1,4 +1,5 @@
 // Writing raw code: `as_rust_code` of docs/src/src/parsing.rs.
+#![tactic(auto)]
 ghost use Rattle.std.specs.Prelude.{◌≡◌, List, ℕ, length, take};
 ghost use Rattle.words.specs.Buffer.{used_of, filled};
 ghost use Rattle.parsing.specs.Reading.{Var, reading};

@@ -1,5 +1,6 @@
 // The C ABI: one exported function for each operation of document 01, and two that check a tree with its facts by itself, all thin.
 // include/ssr.h declares them.
+#![tactic(auto)]
 pub mod rule_exports; // rule_exports.rt: the operations on rules
 pub mod match_exports; // match_exports.rt: the operation that matches
 pub mod job_exports; // job_exports.rt: the operations that write an edit list

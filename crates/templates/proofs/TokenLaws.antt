@@ -1,7 +1,7 @@
 -- Receivers: the tokens of a part by its words in turn, and the lone one among them.
 -- Assumes nothing.
 use mathlib.Core.Path.{◌≡◌, refl, sym, ap, ◌∙◌}
-use mathlib.Core.Bool.{Bool, true, false, cond, ◌&&◌, and_false, false≢true}
+use mathlib.Core.Bool.{Bool, true, false, cond, ◌&&◌, and-false, false≢true}
 use mathlib.Core.List.{List, [], ◌∷◌, ◌++◌, append-nil}
 use Prim.Native.Nat.{ℕ, zero, suc, ◌+◌, ◌-◌, ◌*◌, ◌≤◌, ◌<◌}
 use native.Mathlib.Numerals.{add-one}
@@ -133,7 +133,7 @@ receiver_is (j ∷ []) i = by (eqb j i) refl
     by : (b : Bool) → eqb j i ≡ b → (eqb j i && true) ≡ eqb (j + 1) (i + 1)
     by true h = let e = eqb-true j i h in rw h (sym (eq-eqb (j + 1) (i + 1) (omega arith)))
     by false h = rw h (sym (ne_eqb (j + 1) (i + 1) (λ e. eqb-false j i h (omega arith))))
-receiver_is (j ∷ (k ∷ l)) i = and_false (eqb j i) ∙ sym (ne_eqb 0 (i + 1) (λ e. omega arith))
+receiver_is (j ∷ (k ∷ l)) i = and-false (eqb j i) ∙ sym (ne_eqb 0 (i + 1) (λ e. omega arith))
 
 -- the tokens of the node that was found are those below it
 pub found_tokens : (low high : ℕ) (c : Elems) → tokens_of (by_itself (find_node low high c)) ≡ tokens_of (children (find_node low high c))

@@ -4,7 +4,7 @@ use mathlib.Core.Path.{◌≡◌, refl, subst}
 use mathlib.Core.Bool.{Bool, true, false, cond}
 use mathlib.Core.List.{List, ◌++◌}
 use Prim.Native.Nat.{ℕ, zero, suc, ◌+◌, ◌-◌, ◌≤◌}
-use native.Mathlib.Nat.{add-zero, add_suc}
+use native.Mathlib.Nat.{add-zero, add-suc}
 use native.Mathlib.Omega.{arith}
 use Rattle.syntax.specs.Trees.{Elems}
 use Rattle.syntax.specs.Accessors.{some}
@@ -44,7 +44,7 @@ below_more f step m n h = let e : m + (n - m) ≡ n = omega (arith, h) in subst 
   where
     by : (k : ℕ) → Below (f m) (f (m + k))
     by zero = rw (add-zero m) (below_refl (f m))
-    by (suc k) = rw (add_suc m k) (λ es e. step (m + k) es (by k es e))
+    by (suc k) = rw (add-suc m k) (λ es e. step (m + k) es (by k es e))
 
 -- ---- one more call
 mutual

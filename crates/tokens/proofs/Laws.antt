@@ -1,7 +1,7 @@
 -- Laws of token lists: one token more, and the end.
 -- Assumes nothing.
 use mathlib.Core.Path.{◌≡◌, refl, sym, ap, ◌∙◌}
-use mathlib.Core.Bool.{Bool, true, false, ◌&&◌, and_false}
+use mathlib.Core.Bool.{Bool, true, false, ◌&&◌, and-false}
 use mathlib.Core.List.{List, [], ◌∷◌}
 use Prim.Native.Nat.{ℕ, ◌+◌, ◌<◌, ◌≤◌}
 use native.Mathlib.Numerals.{add-one}
@@ -48,7 +48,7 @@ module _ (words text : List ℕ) where
 
   pub not_tokens : all_token_words words ≡ false → is_token_list words text ≡ false
   unfolding is_token_list
-  not_tokens h = rw (h, and_false (leb (length words) 255))
+  not_tokens h = rw (h, and-false (leb (length words) 255))
 
   pub all_tokens : length words ≤ 255 → all_token_words words ≡ true → is_token_list words text ≡ eqb (total_length words) (length text)
   unfolding is_token_list

@@ -1,4 +1,5 @@
 // Token lists: the tokens of a list of words, and whether the list is well-formed.
+#![tactic(auto)]
 ghost use Rattle.std.specs.Prelude.{◌≡◌, ◌∷◌, cond, ◌+◌, ◌*◌, ◌<◌, ◌≤◌, length, drop};
 ghost use Rattle.tokens.specs.Tokens.{token_at, token_text, is_token_word, is_token_list, rest, after, head_is, Along};
 

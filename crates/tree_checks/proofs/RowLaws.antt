@@ -1,7 +1,7 @@
 -- Rows and elements as the loops meet them: the next of them, and the end.
 -- Assumes nothing.
 use mathlib.Core.Path.{◌≡◌, refl, sym, ◌∙◌}
-use mathlib.Core.Bool.{Bool, true, false, ◌&&◌, and_false}
+use mathlib.Core.Bool.{Bool, true, false, ◌&&◌, and-false}
 use mathlib.Core.List.{List, [], ◌∷◌}
 use Prim.Native.Nat.{ℕ, ◌*◌, ◌≤◌, ◌<◌}
 use native.Mathlib.Omega.{arith}
@@ -20,7 +20,7 @@ row_on l d from to h k s e = row_next l from to h ∙ rw (le-leb (span l * 3) (l
 
 -- it begins elsewhere
 pub row_off : (l : List ℕ) (from to : ℕ) → 0 < length l → (start_of l ≡ from → ⊥) → in_row l from to ≡ false
-row_off l from to h n = row_next l from to h ∙ rw (ne_eqb (start_of l) from n, and_false (leb (span l * 3) (length l)))
+row_off l from to h n = row_next l from to h ∙ rw (ne_eqb (start_of l) from n, and-false (leb (span l * 3) (length l)))
 
 -- it is longer than the part
 pub row_cut : (l : List ℕ) (from to : ℕ) → 0 < length l → length l < span l * 3 → in_row l from to ≡ false
@@ -41,7 +41,7 @@ element_short : (l : List ℕ) → length l < 3 → is_element l ≡ false
 unfolding is_element
 element_short [] h = refl
 element_short (x ∷ []) h = refl
-element_short (x ∷ y ∷ []) h = rw (and_false (eqb (kind_at (x ∷ y ∷ []) 1) 3))
+element_short (x ∷ y ∷ []) h = rw (and-false (eqb (kind_at (x ∷ y ∷ []) 1) 3))
 element_short (x ∷ y ∷ z ∷ l) h = absurd (omega arith)
 
 -- such a part is all good where it is empty

@@ -1,7 +1,7 @@
 -- The one law of the walk: the matches of a set of pairs are those of its pairs that match, so candidates that do not match may be left out.
 -- Assumes nothing.
 use mathlib.Core.Path.{◌≡◌, refl, sym, ap, ◌∙◌}
-use mathlib.Core.Bool.{Bool, true, false, cond, ◌&&◌, ◌||◌, and_false, true≢false}
+use mathlib.Core.Bool.{Bool, true, false, cond, ◌&&◌, ◌||◌, and-false, true≢false}
 use mathlib.Core.List.{List, [], ◌∷◌}
 use Prim.Native.Nat.{ℕ, ◌+◌}
 use lib.Dec.{eqb}
@@ -52,7 +52,7 @@ module _ (attempt : ℕ → ℕ → Attempt) where
           let p = and_both (eqb c.node n) (eqb c.rule r) b in
           let a = eqb-true c.node n p.0 in let b = eqb-true c.rule r p.1 in
           let m : is_match (attempt n r) ≡ false = rw (a, b) at e in
-          rw (m, and_false (has l n r), and_false ((eqb c.node n && eqb c.rule r) || has l n r))
+          rw (m, and-false (has l n r), and-false ((eqb c.node n && eqb c.rule r) || has l n r))
       by false b = rw b
 
   or_more : (e a b m : Bool) → (a && m) ≡ (b && m) → ((e || a) && m) ≡ ((e || b) && m)

@@ -1,7 +1,7 @@
 -- Laws of parts and of the comparison of texts.
 -- Assumes nothing.
 use mathlib.Core.Path.{◌≡◌, refl, sym, ap, ◌∙◌}
-use mathlib.Core.Bool.{Bool, true, false, cond, ◌&&◌, and_false, and_assoc}
+use mathlib.Core.Bool.{Bool, true, false, cond, ◌&&◌, and-false, and_assoc}
 use mathlib.Core.List.{List, [], ◌∷◌, ◌++◌}
 use Prim.Native.Nat.{ℕ, suc, ◌+◌, ◌-◌, ◌<◌, ◌≤◌}
 use native.Mathlib.Numerals.{add-one}
@@ -26,7 +26,7 @@ module _ (t : List ℕ) (start end : ℕ) where
 
   pub part_outside : length t < end → part t start end ≡ []
   unfolding part
-  part_outside h = rw (lt-leb end (length t) h, and_false (leb start end))
+  part_outside h = rw (lt-leb end (length t) h, and-false (leb start end))
 
 either_none : (b : Bool) → cond {A = List ℕ} b [] [] ≡ []
 either_none true = refl
@@ -63,7 +63,7 @@ unfolding same_text
 same_lengths [] [] n = absurd (n refl)
 same_lengths [] (b ∷ y) n = refl
 same_lengths (a ∷ x) [] n = refl
-same_lengths (a ∷ x) (b ∷ y) n = rw (same_lengths x y (λ e. n (ap suc e))) (and_false (eqb a b))
+same_lengths (a ∷ x) (b ∷ y) n = rw (same_lengths x y (λ e. n (ap suc e))) (and-false (eqb a b))
 
 -- a text that is shorter than a prefix does not begin with it
 pub prefix_short : (p t : List ℕ) → length t < length p → has_prefix p t ≡ false

@@ -11,7 +11,7 @@ use lib.Dec.{eqb, leb}
 use borrow.Author.Rules.{rules}
 use native.Mathlib.Omega.{arith}
 use native.Mathlib.Nat.{add-zero}
-use borrow.Author.Tests.{eq-eqb, ne_eqb, not_true, not_false}
+use borrow.Author.Tests.{eq-eqb, ne_eqb, not-true, not-false}
 use Rattle.syntax.specs.Trees.{elems}
 use Rattle.syntax.proofs.AccessorLaws.{number_is}
 use Rattle.words.proofs.TestLaws.{and_both}
@@ -861,7 +861,7 @@ by_name-returns t c =
     matcher_of a.rule.now a.file.now a.marks.now a.words.now a.facts.now a.cx in (
       l.invariant.2,
       l.invariant.3 _ _ (name.by_name_ends matcher a.pe a.p.now l.at a.ce a.c.now l.by a.leaves l.t l.out c₃.behind.result.now c₃.behind.ensures.0 c₂.goes_on.result (c₂.goes_on.ensures a.rule.now a.file.now a.words.now
-          a.facts.now a.cx) (not_true c₂.goes_on.result c₁.if1.true) _ c.done.ensures),
+          a.facts.now a.cx) (not-true c₂.goes_on.result c₁.if1.true) _ c.done.ensures),
     )
 
 by_name-field-requires : (t : ℕ) → by_name-lts.Need-field-requires (by_name_claims t) (by_name-at t) by_name_lem.Post by_name-Inv-loop by_name-μ-loop
@@ -877,7 +877,7 @@ by_name-width-requires t c κs =
     omega (
       arith,
       name.by_name_long matcher a.pe a.p.now l.at a.ce a.c.now l.by a.leaves l.t l.out c₉.behind.result.now c₉.behind.ensures.0 c₈.goes_on.result (c₈.goes_on.ensures a.rule.now a.file.now a.words.now
-          a.facts.now a.cx) (not_false c₈.goes_on.result c₇.if1.false),
+          a.facts.now a.cx) (not-false c₈.goes_on.result c₇.if1.false),
     )
 
 by_name-add-at : (t : ℕ) → by_name-lts.Need-overflow-add-at (by_name_claims t) (by_name-at t) by_name_lem.Post by_name-Inv-loop by_name-μ-loop
@@ -902,7 +902,7 @@ by_name-loop-again t c =
       c₆.field.ensures.0 ∙ l.invariant.2,
       λ r end g. l.invariant.3 r
           end (name.by_name_next matcher a.pe a.p.now l.at a.ce a.c.now l.by a.leaves l.t l.out c₁₀.behind.result.now c₁₀.behind.ensures.0 c₉.goes_on.result (c₉.goes_on.ensures a.rule.now a.file.now a.words.now
-          a.facts.now a.cx) (not_false c₉.goes_on.result c₈.if1.false) _ _ c₆.field.ensures.1 c₃.if2.true _ refl
+          a.facts.now a.cx) (not-false c₉.goes_on.result c₈.if1.false) _ _ c₆.field.ensures.1 c₃.if2.true _ refl
           c.width.result c₁.past.result c.width.ensures.1 c₁.past.ensures.1 r end g),
     )
 
@@ -919,7 +919,7 @@ by_name-returns-2 t c =
       c₄.field.ensures.0 ∙ l.inv.2,
       l.inv.3 _ _ (name.by_name_fails matcher a.pe a.p.now l.at a.ce a.c.now l.by
           a.leaves l.t l.out c₈.behind.result.now c₈.behind.ensures.0 c₇.goes_on.result (c₇.goes_on.ensures a.rule.now
-          a.file.now a.words.now a.facts.now a.cx) (not_false c₇.goes_on.result c₆.if1.false) _ _ c₄.field.ensures.1
+          a.file.now a.words.now a.facts.now a.cx) (not-false c₇.goes_on.result c₆.if1.false) _ _ c₄.field.ensures.1
           c₁.if2.false _ c.fail.ensures),
     )
 
