@@ -150,6 +150,9 @@ def main(argv):
         new = respelled(name, kind, kinds)
         if new != name:
             (fields if kind == "field" else table)[name] = new
+            # A name may be a field's and a definition's.
+            if re.fullmatch(r"[a-z]+[A-Z]\w*", name):
+                fields[name] = new
     # A lemma that would have a definition's name is marked.
     taken = {table.get(it, it) for it, kind in kinds.items() if kind not in ("lemma", "field")}
     for old, kind in kinds.items():

@@ -1,5 +1,6 @@
 // The answer of matching one node, and the buffer then.
 #![tactic(auto)]
+
 ghost use Rattle.std.specs.Prelude.{◌≡◌, List, [], ℕ, ◌≤◌, length};
 ghost use Rattle.words.specs.Buffer.{filled};
 ghost use Rattle.captures.specs.Attempts.{Attempt};
@@ -11,7 +12,7 @@ use errors::Refusal;
 use words::buffer;
 
 // What came of matching: a match has the length of its comments.
-#[derive(Drop)]
+#[derive(Clone, Copy)]
 pub enum Case {
     Refused(Refusal),
     NoMatch,
@@ -19,7 +20,7 @@ pub enum Case {
 }
 
 // The answer: what came of it, and the bindings in pattern order.
-#[derive(Drop)]
+#[derive(Clone, Copy)]
 pub struct NodeMatch {
     pub case: Case,
     pub bindings: [Binding; 8],

@@ -34,7 +34,7 @@ first_fits x p c = not (is_typed (call_of x p) && some (argument_of c)) || (dere
 
 -- the code's path refers to what the pattern's resolves to; the method call calls the function of the pattern's call
 abbrev pub same_resolution : Matcher → Elems → Elems → Bool
-same_resolution x p c = resolves_to x.facts (number_of c) (resolution_of (x.pathAt (number_of p)))
+same_resolution x p c = resolves_to x.facts (number_of c) (resolution_of (x.path_at (number_of p)))
 
 abbrev pub same_function : Matcher → Elems → Elems → Bool
 same_function x p c = calls_function x.facts (number_of c) (function_of (call_of x p))

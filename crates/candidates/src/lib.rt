@@ -1,6 +1,7 @@
 // A job's candidates, two words each: whether each names a node and a rule (25), whether a pair comes twice (26), and their order by node
 // and then rule.
 #![tactic(auto)]
+
 ghost use Rattle.std.specs.Prelude.{◌≡◌, not, ◌≤◌, length};
 ghost use Rattle.sorting.specs.Sorted.{sort};
 ghost use Rattle.syntax.specs.Trees.{tree};

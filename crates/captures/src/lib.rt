@@ -1,5 +1,6 @@
 // What matching records. Document 01: "an array of eight bindings, by value, in pattern order".
 #![tactic(auto)]
+
 ghost use Rattle.std.specs.Prelude.{◌≡◌, true, false, List, ℕ, ◌+◌, ◌-◌, ◌≤◌, ◌<◌, length, take, drop};
 ghost use Rattle.words.specs.Buffer.{laid};
 ghost use Rattle.syntax.specs.Trees.{elems};
@@ -12,7 +13,7 @@ use words::{buffer, fields, texts};
 
 // A placeholder's binding: its bytes in the file, and for a receiver how often it is dereferenced and how the function takes it (0 owned,
 // 1 `&`, 2 `&mut`).
-#[derive(Drop)]
+#[derive(Clone, Copy)]
 pub struct Binding {
     pub bound: bool,
     pub start: u32,
@@ -23,7 +24,7 @@ pub struct Binding {
 
 // The bindings so far, the place behind the comments noted so far, past the buffer's end where one did not fit, and whether they are laid or
 // only measured.
-#[derive(Drop)]
+#[derive(Clone, Copy)]
 pub struct State {
     pub bindings: [Binding; 8],
     pub noted: usize,
@@ -31,14 +32,14 @@ pub struct State {
 }
 
 // Whether there is a match, with the state then.
-#[derive(Drop)]
+#[derive(Clone, Copy)]
 pub struct Answer {
     pub ok: bool,
     pub state: State,
 }
 
 // Whether one turn of a loop matched, how many elements of pattern and code it used up, and the state then.
-#[derive(Drop)]
+#[derive(Clone, Copy)]
 pub struct Turn {
     pub go: bool,
     pub p: usize,

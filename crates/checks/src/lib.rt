@@ -14,7 +14,7 @@ use rules::stages;
 use rules::stages::Stage;
 
 // The range that matches are restricted to, where one is given.
-#[derive(Drop)]
+#[derive(Clone, Copy)]
 pub struct Restriction {
     pub given: bool,
     pub start: usize,

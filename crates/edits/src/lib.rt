@@ -10,7 +10,7 @@ use words::buffer::Placed;
 use words::{buffer, fields};
 
 // What came of a job: Asked has the kind and the length of the text, an edit list its length.
-#[derive(Drop)]
+#[derive(Clone, Copy)]
 pub enum Edited {
     Refused(Refusal),
     Asked(u32, usize),
@@ -19,7 +19,7 @@ pub enum Edited {
 
 // 01's number and values of an answer: a refusal's number, whether a text is asked for, its kind, and the length of that text or of the edit list.
 #[repr(C)]
-#[derive(Drop)]
+#[derive(Clone, Copy)]
 pub struct EditedNumbers {
     pub refusal: u32,
     pub asked: u32,

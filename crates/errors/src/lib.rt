@@ -1,10 +1,11 @@
 // The refusals of document 01, as an enum instead of the crate's message texts (docs/src/src/errors.rs).
 #![tactic(auto)]
+
 ghost use Rattle.std.specs.Prelude.{◌≡◌};
 ghost use Rattle.errors.specs.Refusals.{number_of, outcome_number, lowest_of};
 
 // One case for each number of 01's section "Refusals by operation", in its order.
-#[derive(Drop)]
+#[derive(Clone, Copy)]
 pub enum Refusal {
     // Reading tokens.
     MalformedList,
@@ -85,7 +86,7 @@ pub fn number_of(refusal: Refusal) -> u32
 }
 
 // What a check, or an operation that gives nothing else, answers.
-#[derive(Drop)]
+#[derive(Clone, Copy)]
 pub enum Outcome {
     Accepted,
     Refused(Refusal),

@@ -12,7 +12,7 @@ use rust_code::Written;
 
 // A placeholder: the bytes of its name in the list's text, and how many constraints it has.
 #[repr(C)]
-#[derive(Drop)]
+#[derive(Clone, Copy)]
 pub struct NamedPlaceholder {
     pub start: usize,
     pub end: usize,
@@ -21,7 +21,7 @@ pub struct NamedPlaceholder {
 
 // The answer of reading tokens: 01's number, and the placeholders in list order.
 #[repr(C)]
-#[derive(Drop)]
+#[derive(Clone, Copy)]
 pub struct ReadTokens {
     pub refusal: u32,
     pub count: usize,
@@ -72,7 +72,7 @@ pub fn tokens_read(parsed: ParsedPattern) -> ReadTokens
 
 // The answer of writing raw code: 01's number, and the length of the code.
 #[repr(C)]
-#[derive(Drop)]
+#[derive(Clone, Copy)]
 pub struct RawCode {
     pub refusal: u32,
     pub length: usize,

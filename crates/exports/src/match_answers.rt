@@ -7,7 +7,7 @@ use captures::Binding;
 
 // A placeholder's binding: whether it is bound, its bytes in the file, and what a receiver has.
 #[repr(C)]
-#[derive(Drop)]
+#[derive(Clone, Copy)]
 pub struct BoundPlaceholder {
     pub bound: u32,
     pub start: u32,
@@ -18,7 +18,7 @@ pub struct BoundPlaceholder {
 
 // The answer of matching one node: 01's number, whether the node matches, how many bytes its comments have, and the bindings in pattern order.
 #[repr(C)]
-#[derive(Drop)]
+#[derive(Clone, Copy)]
 pub struct MatchedNode {
     pub refusal: u32,
     pub matched: u32,
@@ -70,7 +70,7 @@ fn bindings_of(bindings: [Binding; 8]) -> [BoundPlaceholder; 8]
 }
 
 // What came of it: 01's number, whether there is a match, and how many bytes its comments have.
-#[derive(Drop)]
+#[derive(Clone, Copy)]
 struct CaseNumbers {
     refusal: u32,
     matched: u32,

@@ -11,7 +11,7 @@ use rules::numbering::Found;
 
 // The answer of building rules: 01's number, how many rules are left, and the rule that was asked for, if it is found.
 #[repr(C)]
-#[derive(Drop)]
+#[derive(Clone, Copy)]
 pub struct BuiltRules {
     pub refusal: u32,
     pub rules: usize,
@@ -79,7 +79,7 @@ pub fn rules_built(built: Built) -> BuiltRules
 
 // The answer of resolving: 01's number, whether the element is found, and what it is as a path and as a call.
 #[repr(C)]
-#[derive(Drop)]
+#[derive(Clone, Copy)]
 pub struct ResolvedElement {
     pub refusal: u32,
     pub found: u32,
@@ -93,7 +93,7 @@ pub struct ResolvedElement {
 }
 
 // Whether a path is resolved, and what it resolves to.
-#[derive(Drop)]
+#[derive(Clone, Copy)]
 struct PathNumbers {
     resolved: u32,
     resolution: u32,
@@ -115,7 +115,7 @@ fn path_numbers(path: PathAt) -> PathNumbers
 }
 
 // Whether an element is a call, its function, whether that has a qualifier type, and the type.
-#[derive(Drop)]
+#[derive(Clone, Copy)]
 struct CallNumbers {
     call: u32,
     function: u32,

@@ -1,5 +1,6 @@
 // Whether words are the well-formed facts of a tree (21): each fact by its words, its sort, its element and its values, and then the list.
 #![tactic(auto)]
+
 ghost use Rattle.std.specs.Prelude.{◌≡◌, true, ◌&&◌, ◌<◌, ◌≤◌, ◌/◌, length};
 ghost use Rattle.syntax.specs.Trees.{tree};
 ghost use Rattle.syntax.specs.Checks.{WellFormed};

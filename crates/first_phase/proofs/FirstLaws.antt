@@ -125,14 +125,14 @@ kinds_outside x p c other low high is out a b calls =
 
 module _ (x : Matcher) (p c : Elems) (list : eqb (kind_of c) 8 ≡ false) (trees : eqb (kind_of c) 1 ≡ false) where
   -- a path that refers to something else
-  pub path_fails : eqb (kind_of c) 2 ≡ true → is_resolved (x.pathAt (number_of p)) ≡ true → same_resolution x p c ≡ false → KindFails x p c
+  pub path_fails : eqb (kind_of c) 2 ≡ true → is_resolved (x.path_at (number_of p)) ≡ true → same_resolution x p c ≡ false → KindFails x p c
   unfolding matchByKind matchPath
   path_fails t r f zero = refl
   path_fails t r f (suc zero) = rw (list, trees, t)
   path_fails t r f (suc (suc n)) = rw (list, trees, t, r, f) (then_fails (matchSegments n x (first_child 3 p) (first_child 3 c)))
 
   -- a path that is not resolved, and any other node
-  pub path-below : eqb (kind_of c) 2 ≡ true → is_resolved (x.pathAt (number_of p)) ≡ false → SiblingsFail x (children p) (children c) → KindFails x p c
+  pub path-below : eqb (kind_of c) 2 ≡ true → is_resolved (x.path_at (number_of p)) ≡ false → SiblingsFail x (children p) (children c) → KindFails x p c
   unfolding matchByKind matchPath
   path-below t r f zero = refl
   path-below t r f (suc zero) = rw (list, trees, t)
@@ -143,7 +143,7 @@ module _ (x : Matcher) (p c : Elems) (list : eqb (kind_of c) 8 ≡ false) (trees
   node_below t f zero = refl
   node_below t f (suc n) = rw (list, trees, t) (f n)
 
-  pub kind-below : (b v : Bool) → eqb (kind_of c) 2 ≡ b → v ≡ is_resolved (x.pathAt (number_of p)) → (b && v) ≡ false → SiblingsFail x (children p) (children c) → KindFails x p c
+  pub kind-below : (b v : Bool) → eqb (kind_of c) 2 ≡ b → v ≡ is_resolved (x.path_at (number_of p)) → (b && v) ≡ false → SiblingsFail x (children p) (children c) → KindFails x p c
   kind-below true v t r h = path-below t (sym r ∙ h)
   kind-below false v t r h = node_below t
 

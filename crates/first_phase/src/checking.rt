@@ -13,7 +13,7 @@ use matcher::{marks, token_matching};
 use syntax::accessors;
 
 // What two nodes, or siblings, come to: they cannot match, or cannot if their children cannot, or nothing is said of them.
-#[derive(Drop)]
+#[derive(Clone, Copy)]
 pub enum Check {
     Fails,
     Below,
@@ -78,7 +78,7 @@ fn check_by_kind(
 }
 
 // What a turn comes to, and how many elements of pattern and code it passes.
-#[derive(Drop)]
+#[derive(Clone, Copy)]
 pub struct Turn {
     pub check: Check,
     pub p: usize,

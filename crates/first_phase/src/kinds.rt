@@ -15,7 +15,7 @@ use syntax::accessors;
 use words::fields;
 
 // Kinds from one number to another.
-#[derive(Drop)]
+#[derive(Clone, Copy)]
 pub struct Kinds {
     pub low: u32,
     pub high: u32,

@@ -23,7 +23,7 @@ use matching::attempt_match;
 use syntax::accessors;
 
 // What is asked: the node, the range, whether the rule has a template, and how many elements that has.
-#[derive(Drop)]
+#[derive(Clone, Copy)]
 pub struct Asked {
     pub node: usize,
     pub range: Restriction,

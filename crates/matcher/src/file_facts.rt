@@ -8,7 +8,7 @@ use facts::index;
 use words::fields;
 
 // Whether an expression has a type after some dereferences, and after how many.
-#[derive(Drop)]
+#[derive(Clone, Copy)]
 pub struct Derefs {
     pub fits: bool,
     pub count: u32,

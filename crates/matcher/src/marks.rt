@@ -8,7 +8,7 @@ use syntax::accessors;
 use words::fields;
 
 // The sheet of separators, and of each placeholder whether it wants a literal and whether it wants another thing.
-#[derive(Drop)]
+#[derive(Clone, Copy)]
 pub struct Context {
     pub sheet: Sheet,
     pub literal: [bool; 8],

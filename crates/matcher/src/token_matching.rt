@@ -7,14 +7,14 @@ use syntax::accessors;
 use words::texts;
 
 // A separator that may stand, or be left out, right before a closer, by their kinds.
-#[derive(Drop)]
+#[derive(Clone, Copy)]
 pub struct Skip {
     pub separator: u32,
     pub closer: u32,
 }
 
 // Up to four of them; an unused one is 0.
-#[derive(Drop)]
+#[derive(Clone, Copy)]
 pub struct Sheet {
     pub first: Skip,
     pub second: Skip,
@@ -23,7 +23,7 @@ pub struct Sheet {
 }
 
 // Whether a token matches, and how many elements of the pattern it uses up.
-#[derive(Drop)]
+#[derive(Clone, Copy)]
 pub struct Token {
     pub ok: bool,
     pub passed: usize,

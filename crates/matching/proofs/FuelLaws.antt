@@ -67,7 +67,7 @@ mutual
   step-path : (n : ℕ) (x : Matcher) (p c : Elems) → Below (matchPath n x p c) (matchPath (suc n) x p c)
   step-path zero x p c = below-failed _
   step-path (suc n) x p c =
-      below_cond (is_resolved (x.pathAt (number_of p))) (below_then (step-segments n x _ _) (below_refl _)) (step-sequences n x _ _)
+      below_cond (is_resolved (x.path_at (number_of p))) (below_then (step-segments n x _ _) (below_refl _)) (step-sequences n x _ _)
 
   step-segments : (n : ℕ) (x : Matcher) (p c : Elems) → Below (matchSegments n x p c) (matchSegments (suc n) x p c)
   step-segments zero x p c = below-failed _

@@ -67,5 +67,5 @@ module _ (rule file marks words facts : List ℕ) (cx : Context) (pe : ℕ) (p :
   call_node kind c k b v e f t =
       ap (λ (n : ℕ). is_a_call (call_in marks n) && node_in kind kind c) (number_is pe p h) ∙ rw (← e, ← f) t
 
-  pub resolved_is : (b v : Bool) → b ≡ is_resolved (path_in marks pe) → b ≡ v → is_resolved ((matcher_of rule file marks words facts cx).pathAt (number_of (elems pe p))) ≡ v
+  pub resolved_is : (b v : Bool) → b ≡ is_resolved (path_in marks pe) → b ≡ v → is_resolved ((matcher_of rule file marks words facts cx).path_at (number_of (elems pe p))) ≡ v
   resolved_is b v e t = ap (λ (n : ℕ). is_resolved (path_in marks n)) (number_is pe p h) ∙ sym e ∙ t

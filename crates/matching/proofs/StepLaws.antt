@@ -89,12 +89,12 @@ module _ (x : Matcher) (p c : Elems) (n : ℕ) where
   opt_none h k = rw (h, k)
 
   -- ---- paths
-  pub path_resolved : is_resolved (x.pathAt (number_of p)) ≡ true
+  pub path_resolved : is_resolved (x.path_at (number_of p)) ≡ true
       → matchPath (suc n) x p c ≡ and_then (matchSegments n x (first_child 3 p) (first_child 3 c)) (given (same_resolution x p c))
   unfolding matchNode
   path_resolved h = rw (h)
 
-  pub path-plain : is_resolved (x.pathAt (number_of p)) ≡ false → matchPath (suc n) x p c ≡ matchSequences n x (children p) (children c)
+  pub path-plain : is_resolved (x.path_at (number_of p)) ≡ false → matchPath (suc n) x p c ≡ matchSequences n x (children p) (children c)
   unfolding matchNode
   path-plain h = rw (h)
 

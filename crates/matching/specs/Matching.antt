@@ -64,7 +64,7 @@ unfoldable mutual
   pub matchPath : ℕ → Matcher → Elems → Elems → Attempt
   matchPath zero x p c = failed
   matchPath (suc n) x p c =
-      cond (is_resolved (x.pathAt (number_of p)))
+      cond (is_resolved (x.path_at (number_of p)))
       (and_then (matchSegments n x (first_child 3 p) (first_child 3 c)) (given (same_resolution x p c)))
       (matchSequences n x (children p) (children c))
 

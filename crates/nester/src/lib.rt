@@ -1,6 +1,7 @@
 // nester.rs of docs/src: matches are kept inside each other, and those that collide are dropped. The matches are rows of words
 // (specs/Rows.antt) by element and rule, not by depth: on one line of ancestors both orders agree.
 #![tactic(auto)]
+
 ghost use Rattle.std.specs.Prelude.{◌≡◌, cond, ℕ, ◌+◌, ◌<◌, ◌≤◌, eqb};
 ghost use Rattle.syntax.specs.Trees.{tree, size};
 ghost use Rattle.syntax.specs.Checks.{WellFormed};
@@ -11,7 +12,7 @@ use syntax::{accessors, parts};
 use words::fields;
 
 // Where a match has come to: the state and the slot of its row.
-#[derive(Drop)]
+#[derive(Clone, Copy)]
 struct Settled {
     state: usize,
     slot: usize,

@@ -20,7 +20,7 @@ no_range : (start end x : ℕ) (ps : List Part) → start < x → has_range star
 unfolding has_range
 no_range start end x [] h = refl
 no_range start end x (p ∷ ps) h =
-    rw (ne_eqb x start (λ e. omega arith), and-false p.isPlaceholder) (no_range start end (x + p.length) ps (omega arith))
+    rw (ne_eqb x start (λ e. omega arith), and-false p.is_placeholder) (no_range start end (x + p.length) ps (omega arith))
 
 -- an empty placeholder's part stands at x, behind empty parts only
 abbrev pub is_followed : ℕ → List Part → Bool
@@ -79,12 +79,12 @@ module _ (ranges : List NodeRange) (parts : List ℕ) (x y w i j : ℕ) (f : Boo
   first : drop j parts ≡ w ∷ drop i parts
   first = drop-cons parts j 0 among ∙ rw (← is, ← next)
 
-  pub followed_back : (n : ℕ) (b : Bool) → n ≡ (part_at w).length → b ≡ (part_at w).isPlaceholder → (eqb n 0 && (b || f)) ≡ is_followed y (parts_of (drop j parts))
+  pub followed_back : (n : ℕ) (b : Bool) → n ≡ (part_at w).length → b ≡ (part_at w).is_placeholder → (eqb n 0 && (b || f)) ≡ is_followed y (parts_of (drop j parts))
   unfolding has_range
-  followed_back n b e g = rw (first, follows, ← at, e, g) (sym (followed y (part_at w).length (parts_of (drop i parts)) (part_at w).isPlaceholder))
+  followed_back n b e g = rw (first, follows, ← at, e, g) (sym (followed y (part_at w).length (parts_of (drop i parts)) (part_at w).is_placeholder))
 
   abbrev pub required : Bool
-  required = (part_at w).isPlaceholder && not (is_among ranges y (y + (part_at w).length)) && not (eqb (part_at w).length 0 && f)
+  required = (part_at w).is_placeholder && not (is_among ranges y (y + (part_at w).length)) && not (eqb (part_at w).length 0 && f)
 
   requires_back : requires ranges y (parts_of (drop j parts)) ≡ required ∷ requires ranges x (parts_of (drop i parts))
   unfolding requires

@@ -25,7 +25,7 @@ total (p ∷ ps) = p.length + total ps
 -- one of the placeholders has the range from start to end; the parts begin at byte x of the text
 unfoldable pub has_range : ℕ → ℕ → ℕ → List Part → Bool
 has_range start end x [] = false
-has_range start end x (p ∷ ps) = (p.isPlaceholder && eqb x start && eqb (x + p.length) end) || has_range start end (x + p.length) ps
+has_range start end x (p ∷ ps) = (p.is_placeholder && eqb x start && eqb (x + p.length) end) || has_range start end (x + p.length) ps
 
 -- `placeholder_tokens_requiring_parenthesis`: `placeholder_tokens_by_range` has the last placeholder of each range, and
 -- `remove_node_ranges` takes out the ranges of the parse's nodes. So a placeholder requires parentheses where its range is none of the
@@ -33,7 +33,7 @@ has_range start end x (p ∷ ps) = (p.isPlaceholder && eqb x start && eqb (x + p
 unfoldable pub requires : List NodeRange → ℕ → List Part → List Bool
 requires ranges x [] = []
 requires ranges x (p ∷ ps) =
-    (p.isPlaceholder && not (is_among ranges x (x + p.length)) && not (has_range x (x + p.length) (x + p.length) ps))
+    (p.is_placeholder && not (is_among ranges x (x + p.length)) && not (has_range x (x + p.length) (x + p.length) ps))
     ∷ requires ranges (x + p.length) ps
 
 -- a mark is one word, 1 where parentheses are required

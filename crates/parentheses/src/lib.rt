@@ -1,5 +1,6 @@
 // Parentheses: which placeholders of a first rendering require them, and putting them in where the rendering stands.
 #![tactic(auto)]
+
 ghost use Rattle.std.specs.Prelude.{◌≡◌, ◌&&◌, not, map, ◌+◌, ◌-◌, ◌*◌, ◌≤◌, eqb, length, take, drop};
 ghost use Rattle.words.specs.Buffer.{laid};
 ghost use Rattle.parses.specs.Ranges.{ranges_of, is_among};
@@ -14,7 +15,7 @@ fn length_of(part: u32) -> usize
 
 // Whether a part is a placeholder's.
 fn is_placeholder(part: u32) -> bool
-    ensures { result ≡ (part_at part).isPlaceholder }
+    ensures { result ≡ (part_at part).is_placeholder }
 {
     part % 2 == 1
 }
@@ -36,7 +37,7 @@ fn total_length(parts: &[u32]) -> usize
 // The mark of a part at byte x, and whether an empty placeholder's part follows behind it without a byte between.
 fn mark_of(ranges: &[u32], part: u32, x: usize, follows: bool) -> u32
     requires { x + (part_at part).length ≤ 1048576 }
-    ensures value { result ≡ bit ((part_at part).isPlaceholder && not (is_among (ranges_of ranges.now) x (x + (part_at part).length)) && not (eqb (part_at part).length 0 && follows)) }
+    ensures value { result ≡ bit ((part_at part).is_placeholder && not (is_among (ranges_of ranges.now) x (x + (part_at part).length)) && not (eqb (part_at part).length 0 && follows)) }
     ensures upper_bound { result ≤ 1 }
 {
     let n = length_of(part);

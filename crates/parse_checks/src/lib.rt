@@ -1,5 +1,6 @@
 // Whether the parses that are handed in are well-formed and none is repeated: 28.
 #![tactic(auto)]
+
 mod repeats; // repeats.rt: whether kind and text come twice
 
 ghost use Rattle.std.specs.Prelude.{◌≡◌, true, length};

@@ -1,5 +1,6 @@
 // The parses that are handed in: the look-up by kind and text, and the node ranges.
 #![tactic(auto)]
+
 ghost use Rattle.std.specs.Prelude.{◌≡◌, true, ◌+◌, ◌*◌, ◌≤◌, length};
 ghost use Rattle.words.specs.Fields.{start_of, end_of};
 ghost use Rattle.words.specs.Texts.{part};
@@ -10,7 +11,7 @@ ghost use Rattle.parses.specs.Answers.{found_is};
 use words::{fields, texts};
 
 // Where the node ranges of a parse stand: at a word, and how many they are. Where no parse is found, both are 0.
-#[derive(Drop)]
+#[derive(Clone, Copy)]
 pub struct Found {
     pub found: bool,
     pub at: usize,

@@ -187,7 +187,12 @@ module _ (text : List ℕ) where
       by false i = absurd (let f : no_name ≡ named y = rw i at n in let z : ◌≡◌ {A = ℕ} 0 1 = cc in omega arith)
 
   before-constraint : (p : Open) (t : Token) → Colon t → (ps : List Token) (v : Var) → Negated p 0 ps v → Inside p (t ∷ ps) v
-  before-constraint p t ht ps v (begins {cs = a} {m = m} h (all (ends x c {cs = cs} {ns = ns} n hs hc))) = rw (← append_assoc a cs (c ∷ []), zero-add m, append_assoc p.nots (m ∷ []) ns) (ends x c n (constrained t ht h hs) hc)
+  before-constraint p t ht ps v (begins {cs = a} {ps = qs} {m = m} h r) = by m qs v h r
+    where
+      step : (m : ℕ) (qs : List Token) (v : Var) → Constraint text a m → Inside (more p (0 + m)) qs v → Inside p (t ∷ (a ++ qs)) v
+      step m _ _ h (ends x c {cs = cs} {ns = ns} n hs hc) = rw (← append_assoc a cs (c ∷ []), zero-add m, append_assoc p.nots (m ∷ []) ns) (ends x c n (constrained t ht h hs) hc)
+      by : (m : ℕ) (qs : List Token) (v : Var) → Constraint text a m → Closing p (0 + m) 0 qs v → Inside p (t ∷ (a ++ qs)) v
+      by m qs v h (all i) = step m qs v h i
 
   before_not : (p : Open) (n : ℕ) (o : Token) → Says text o open_text → (ps : List Token) (v : Var) → Negated p (n + 1) ps v → (k : Token) → Says text k not_text → Negated p n (k ∷ o ∷ ps) v
   before_not p n o ho ps v (begins {cs = a} {m = m} h r) k hk = by _ (rw add-one at r)

@@ -8,14 +8,14 @@ use tokens::{Cursor, Token};
 use words::texts;
 
 // A constraint: its `not`s and the cursor behind it, or its refusal.
-#[derive(Drop)]
+#[derive(Clone, Copy)]
 pub enum Constraint {
     Nots(usize, Cursor),
     Refused(Refusal),
 }
 
 // What stands in the braces: a constraint, the closing brace, or a refusal; with the cursor behind it.
-#[derive(Drop)]
+#[derive(Clone, Copy)]
 pub enum Inside {
     Nots(usize, Cursor),
     Close(Cursor),

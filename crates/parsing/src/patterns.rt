@@ -13,14 +13,14 @@ use tokens::{Cursor, Token};
 use words::texts;
 
 // Bytes of the list's text.
-#[derive(Drop)]
+#[derive(Clone, Copy)]
 pub struct Range {
     pub start: usize,
     pub end: usize,
 }
 
 // A placeholder: its bytes, its name's, and how many constraints it has.
-#[derive(Drop)]
+#[derive(Clone, Copy)]
 pub struct Placeholder {
     pub whole: Range,
     pub name: Range,
@@ -28,7 +28,7 @@ pub struct Placeholder {
 }
 
 // The placeholders in list order, and the `not`s of all constraints in turn.
-#[derive(Drop)]
+#[derive(Clone, Copy)]
 pub struct Pattern {
     pub placeholders: [Placeholder; 8],
     pub count: usize,
@@ -37,28 +37,28 @@ pub struct Pattern {
 }
 
 // The answer of reading tokens; a refusal comes with no placeholders.
-#[derive(Drop)]
+#[derive(Clone, Copy)]
 pub struct ParsedPattern {
     pub outcome: Outcome,
     pub pattern: Pattern,
 }
 
 // The cursor behind what was read, or the refusal.
-#[derive(Drop)]
+#[derive(Clone, Copy)]
 pub enum Step {
     At(Cursor),
     Refused(Refusal),
 }
 
 // A step with the placeholders so far.
-#[derive(Drop)]
+#[derive(Clone, Copy)]
 pub struct Parsed {
     pub step: Step,
     pub pattern: Pattern,
 }
 
 // Whether a placeholder was taken in, and the placeholders then.
-#[derive(Drop)]
+#[derive(Clone, Copy)]
 pub struct Ended {
     pub outcome: Outcome,
     pub pattern: Pattern,

@@ -15,7 +15,7 @@ use parsing::patterns::Pattern;
 use syntax::{accessors, parts};
 
 // What resolving does at an element.
-#[derive(Drop)]
+#[derive(Clone, Copy)]
 pub enum Step {
     // A `self` path: nothing, and nothing below it.
     Skips,

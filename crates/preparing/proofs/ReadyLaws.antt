@@ -54,7 +54,7 @@ matcher_is x root sheet marks cx text words facts m l =
     ∙ ap (λ (f : ℕ → ℕ). made x.code text (tree words) facts sheet f (λ slot b. allows_in cx slot b) (λ e. path_in marks e) (λ e. call_in marks e)) (fun_ext (λ e. m.slots e))
     ∙ ap (λ (f : ℕ → Bool → Bool). made x.code text (tree words) facts sheet (λ e. (matcher_for x root text (tree words) facts sheet).slot_at e) f (λ e. path_in marks e) (λ e. call_in marks e)) (fun_ext (λ slot. fun_ext (λ b. l.limits slot b)))
     ∙ ap (λ (f : ℕ → PathAt). made x.code text (tree words) facts sheet (λ e. (matcher_for x root text (tree words) facts sheet).slot_at e) (λ slot b. (matcher_for x root text (tree words) facts sheet).allows slot b) f (λ e. call_in marks e)) (fun_ext (λ e. m.paths e))
-    ∙ ap (λ (f : ℕ → CallAt). made x.code text (tree words) facts sheet (λ e. (matcher_for x root text (tree words) facts sheet).slot_at e) (λ slot b. (matcher_for x root text (tree words) facts sheet).allows slot b) (λ e. (matcher_for x root text (tree words) facts sheet).pathAt e) f) (fun_ext (λ e. m.calls e))
+    ∙ ap (λ (f : ℕ → CallAt). made x.code text (tree words) facts sheet (λ e. (matcher_for x root text (tree words) facts sheet).slot_at e) (λ slot b. (matcher_for x root text (tree words) facts sheet).allows slot b) (λ e. (matcher_for x root text (tree words) facts sheet).path_at e) f) (fun_ext (λ e. m.calls e))
 
 -- the marks of a form's pattern, whose parts were cut out of the pair
 pub marks_are : (p : Pair) (form : ℕ) (marks paths calls l facts text code : List ℕ) (pattern : Pattern) (r : Bool)

@@ -23,7 +23,7 @@ use templates::rendering::template_pieces;
 use words::fields;
 
 // A template: whether it is ready, for which rule in which module, the rule's pair, how many numbers tell it, and its root's kind.
-#[derive(Drop)]
+#[derive(Clone, Copy)]
 pub struct Template {
     pub ready: bool,
     pub rule: usize,

@@ -1,5 +1,6 @@
 // The fields of record lists by name. Without a heap there is no map: a name is looked for among the code's siblings, or the pattern's.
 #![tactic(auto)]
+
 ghost use Rattle.std.specs.Prelude.{◌≡◌, ℕ, ◌+◌, ◌*◌, ◌≤◌, length, drop};
 ghost use Rattle.syntax.specs.Trees.{elems, tree};
 ghost use Rattle.matcher.specs.FileFacts.{FileOf};
@@ -11,7 +12,7 @@ use words::texts;
 
 // Of a field of the pattern: whether it has a name, whether no field before it has the same, and how many elements of the code are before the
 // last field of that name.
-#[derive(Drop)]
+#[derive(Clone, Copy)]
 pub struct Field {
     pub named: bool,
     pub free: bool,

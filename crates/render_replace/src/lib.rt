@@ -20,7 +20,7 @@ use readying::Template;
 use rows::frames;
 
 // What came of rendering, and the template that is at hand then.
-#[derive(Drop)]
+#[derive(Clone, Copy)]
 pub struct Rendered {
     pub laid: Laid,
     pub template: Template,

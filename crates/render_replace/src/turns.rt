@@ -28,7 +28,7 @@ use words::fields;
 
 // Where a row's steps end: behind its text, but for its comments; where the text of a row nested in it begins; or by an event. Asked
 // has where the first rendering begins and ends.
-#[derive(Drop)]
+#[derive(Clone, Copy)]
 pub enum Step {
     Ended(usize),
     Nested(usize, usize),
@@ -38,7 +38,7 @@ pub enum Step {
 }
 
 // What came of a text: the place behind it, or the event that ended it. Asked has the kind, and where the text begins and ends.
-#[derive(Drop)]
+#[derive(Clone, Copy)]
 pub enum Laid {
     At(usize),
     Unbound,
@@ -47,21 +47,21 @@ pub enum Laid {
 }
 
 // Where rendering goes on: in a row at a place, or nowhere.
-#[derive(Drop)]
+#[derive(Clone, Copy)]
 pub enum Next {
     Row(usize, usize),
     Ends(Laid),
 }
 
 // A row's steps, with its template, which is at hand then.
-#[derive(Drop)]
+#[derive(Clone, Copy)]
 pub struct Stepped {
     pub step: Step,
     pub template: Template,
 }
 
 // A row's turn, and the template that is at hand then.
-#[derive(Drop)]
+#[derive(Clone, Copy)]
 pub struct Turned {
     pub next: Next,
     pub template: Template,

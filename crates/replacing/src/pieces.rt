@@ -13,7 +13,7 @@ use words::buffer;
 use words::buffer::Placed;
 
 // Where rendering goes on: at a place in the same row, or in a row that is nested in it, whose text begins at a place; or the event that ends it.
-#[derive(Drop)]
+#[derive(Clone, Copy)]
 pub enum Turn {
     At(usize),
     Nested(usize, usize),

@@ -13,7 +13,7 @@ use rows::{frames, matches, told};
 use words::fields;
 
 // The place behind the text, or the event that ends the job.
-#[derive(Drop)]
+#[derive(Clone, Copy)]
 pub enum Ended {
     At(usize),
     NoRoom,

@@ -16,7 +16,7 @@ use rules::numbering::Rule;
 use syntax::accessors;
 
 // An element of a rule's tree.
-#[derive(Drop)]
+#[derive(Clone, Copy)]
 pub struct Element {
     pub path: PathAt,
     pub call: CallAt,
@@ -25,7 +25,7 @@ pub struct Element {
 }
 
 // The answer of the operation.
-#[derive(Drop)]
+#[derive(Clone, Copy)]
 pub enum Resolved {
     Refused(Refusal),
     // There is no such rule, side or element.

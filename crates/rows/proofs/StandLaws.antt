@@ -207,13 +207,13 @@ slot_begins W k slot r others frames frames' out out' at at' p here low inside b
 module _ {W : World} {k : ℕ} {frames out : List ℕ} {at : ℕ} {left : ℕ → Trace} (w : Within W k frames out at left) where
   -- what stands of it in the buffer
   stood : List ℕ
-  stood = prefix (binding_in W.rows k w.slot) w.isReceiver ++ w.sofar
+  stood = prefix (binding_in W.rows k w.slot) w.is_receiver ++ w.sofar
 
-  hole-left : slot_hole W k w.slot w.isReceiver ≡ (done stood then left w.slot)
+  hole-left : slot_hole W k w.slot w.is_receiver ≡ (done stood then left w.slot)
   unfolding stood
   hole-left =
-      let bs = prefix (binding_in W.rows k w.slot) w.isReceiver in
-      hole_bound W k w.slot w.isReceiver w.bound ∙ ap (λ (t : Trace). done bs then t) w.rest
+      let bs = prefix (binding_in W.rows k w.slot) w.is_receiver in
+      hole_bound W k w.slot w.is_receiver w.bound ∙ ap (λ (t : Trace). done bs then t) w.rest
       ∙ sym (then_assoc (done bs) (done w.sofar) (left w.slot)) ∙ ap (λ (t : Trace). t then left w.slot) (done_then_done bs w.sofar)
 
   within-place : begin_of frames k + (length (concat w.begun.texts) + length stood) ≡ at
@@ -226,7 +226,7 @@ module _ {W : World} {k : ℕ} {frames out : List ℕ} {at : ℕ} {left : ℕ �
   pub within_stops : (n : ℕ) (e : Event) → left w.slot ≡ stopped n e → row_trace W k ≡ stopped ((at - begin_of frames k) + n) e
   within_stops n e h =
       let q : length (concat w.begun.texts) + (length stood + n) ≡ (at - begin_of frames k) + n = omega (arith, within-place) in
-      row_stops w.begun (captured w.slot w.isReceiver) w.others w.here (length stood + n) e
+      row_stops w.begun (captured w.slot w.is_receiver) w.others w.here (length stood + n) e
       (hole-left ∙ ap (λ (t : Trace). done stood then t) h ∙ done_then_stopped stood n e)
       ∙ ap (λ (m : ℕ). stopped m e) q
 
@@ -235,7 +235,7 @@ module _ {W : World} {k : ℕ} {frames out : List ℕ} {at : ℕ} {left : ℕ �
   within_reaches =
       omega (
         arith,
-        row_reaches w.begun (captured w.slot w.isReceiver) w.others w.here,
+        row_reaches w.begun (captured w.slot w.is_receiver) w.others w.here,
         ap reach hole-left ∙ reach_done_then stood (left w.slot),
         within-place,
       )
@@ -245,12 +245,12 @@ module _ {W : World} {k : ℕ} {frames out : List ℕ} {at : ℕ} {left : ℕ �
       → Stays k frames frames' → filling_of frames' k ≡ filling_of frames k → origin_of frames' k ≡ origin_of frames k → Grows out out' at at' bs
       → Within W k frames' out' at' left'
   within-later frames' out' at' bs left' h s filling origin g =
-      let b = w.begun in let xs = concat b.texts in let ys = prefix (binding_in W.rows k w.slot) w.isReceiver in
+      let b = w.begun in let xs = concat b.texts in let ys = prefix (binding_in W.rows k w.slot) w.is_receiver in
       let n : length (between at at' out') ≡ at' - at = length-between at at' out' g.ends in
       record {
         begun = begun_stays b s g.size g.same g.rise g.ends;
         slot = w.slot;
-        is_receiver = w.isReceiver;
+        is_receiver = w.is_receiver;
         others = w.others;
         low = w.low;
         filling = filling ∙ w.filling;
@@ -285,7 +285,7 @@ module _ {W : World} {k : ℕ} {frames out : List ℕ} {at : ℕ} {left : ℕ �
       → SlotEnds frames k w.slot at' frames' → Passing W k frames' out' at'
   unfolding stood
   slot_ends frames' out' at' bs h g s =
-      let b = w.begun in let slot = w.slot in let xs = concat b.texts in let ys = prefix (binding_in W.rows k slot) w.isReceiver in
+      let b = w.begun in let slot = w.slot in let xs = concat b.texts in let ys = prefix (binding_in W.rows k slot) w.is_receiver in
       let o = origin_of frames k in
       let n : o + length w.sofar ≡ at = w.origin in
       let part : between o at out ≡ w.sofar =
@@ -296,7 +296,7 @@ module _ {W : World} {k : ℕ} {frames out : List ℕ} {at : ℕ} {left : ℕ �
         w.rest ∙ ap (λ (t : Trace). done w.sofar then t) h ∙ done_then_done w.sofar bs
             ∙ ap done (sym (grows_between o at at' out out' bs (omega arith) g ∙ ap (λ (l : List ℕ). l ++ bs) part)),
       ) in
-      passes b (captured slot w.isReceiver) w.others w.here frames' out' at' (stood ++ bs)
+      passes b (captured slot w.is_receiver) w.others w.here frames' out' at' (stood ++ bs)
       (hole-left ∙ ap (λ (t : Trace). done stood then t) h ∙ done_then_done stood bs)
       (grows_between (begin_of frames k) at at' out out' bs b.begins g ∙ ap (λ (l : List ℕ). l ++ bs) w.laid ∙ append_assoc xs stood bs)
       s.begin s.passed s.filling (omega (arith, b.begins, g.rise)) g.ends

@@ -17,7 +17,7 @@ use matcher::marks::Context;
 use rules::numbering::Rule;
 
 // What is asked: the number of a rule, a node, and the range that it has to be in, where one is given.
-#[derive(Drop)]
+#[derive(Clone, Copy)]
 pub struct Question {
     pub rule: usize,
     pub node: usize,

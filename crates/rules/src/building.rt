@@ -8,7 +8,7 @@ use crate::{numbering, stages};
 use errors::{Outcome, Refusal};
 
 // The refusal, or how many rules are left and the one that was asked for.
-#[derive(Drop)]
+#[derive(Clone, Copy)]
 pub enum Built {
     Refused(Refusal),
     Rules(usize, Found),

@@ -7,7 +7,7 @@ use fragments::pairs;
 use syntax::accessors;
 
 // The template's tree of a rule.
-#[derive(Drop)]
+#[derive(Clone, Copy)]
 pub enum TemplateTree {
     // No template was given.
     Absent,

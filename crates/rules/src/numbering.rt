@@ -8,7 +8,7 @@ use crate::forms::TemplateTree;
 use fragments::pairs;
 
 // A rule: the number of its pair, its form, and its template's tree.
-#[derive(Drop)]
+#[derive(Clone, Copy)]
 pub struct Rule {
     pub pair: usize,
     pub form: usize,
@@ -16,7 +16,7 @@ pub struct Rule {
 }
 
 // The rule of a number.
-#[derive(Drop)]
+#[derive(Clone, Copy)]
 pub enum Found {
     NoSuchRule,
     At(Rule),

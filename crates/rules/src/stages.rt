@@ -12,7 +12,7 @@ use parsing::patterns;
 use rust_code::tree_text;
 
 // A stage of checks.
-#[derive(Drop)]
+#[derive(Clone, Copy)]
 pub enum Stage {
     // 1 to 15 of the lists.
     Lists,

@@ -1,5 +1,6 @@
 // Writing raw code: `as_rust_code` of docs/src/src/parsing.rs.
 #![tactic(auto)]
+
 ghost use Rattle.std.specs.Prelude.{◌≡◌, List, ℕ, length, take};
 ghost use Rattle.words.specs.Buffer.{used_of, filled};
 ghost use Rattle.parsing.specs.Reading.{Var, reading};
@@ -17,7 +18,7 @@ use words::{buffer, texts};
 pub mod tree_text; // tree_text.rt: comparing a tree's text with its list
 
 // The length of the raw code, or the refusal.
-#[derive(Drop)]
+#[derive(Clone, Copy)]
 pub enum Written {
     Length(usize),
     Refused(Refusal),

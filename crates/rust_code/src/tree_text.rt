@@ -13,7 +13,7 @@ use tokens::Cursor;
 use words::{fields, texts};
 
 // The place behind bytes that were found, or that others stand there.
-#[derive(Drop)]
+#[derive(Clone, Copy)]
 pub enum Eaten {
     At(usize),
     Differs,

@@ -1,6 +1,7 @@
 // Going along siblings. A function that passes some gives their number, from which the part behind them and the number of its first element
 // follow; it never passes more than the part has.
 #![tactic(auto)]
+
 ghost use Rattle.std.specs.Prelude.{◌≡◌, ℕ, ◌+◌, ◌*◌, ◌≤◌, length, drop};
 ghost use Rattle.syntax.specs.Trees.{elems};
 ghost use Rattle.syntax.specs.Accessors.{children, rest, find_node};

@@ -172,7 +172,7 @@ pub fn is_token_within(words: &[u32], number: usize, inner: usize) -> bool
 }
 
 // Where an element stands: how many ancestors it has, itself counted, and its parent's number, its own where it has none.
-#[derive(Drop)]
+#[derive(Clone, Copy)]
 pub struct Standing {
     pub depth: usize,
     pub parent: usize,

@@ -5,7 +5,7 @@ ghost use Rattle.syntax.specs.Parts.{span, child_words, rest_words};
 use words::fields;
 
 // The bytes of an element.
-#[derive(Drop)]
+#[derive(Clone, Copy)]
 pub struct Range {
     pub start: usize,
     pub end: usize,

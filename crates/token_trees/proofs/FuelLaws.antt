@@ -67,4 +67,4 @@ mutual
   pub step_run : (n : ℕ) (x : Matcher) (p c : Elems) (u : Run) → Below (matchRun n x p c u) (matchRun (suc n) x p c u)
   step_run zero x p c u = below-failed _
   step_run (suc n) x p c u =
-      below_then (below_cond u.isTree (step-tree n x _ _) (below_refl _)) (below_then (below_refl _) (step-tokens n x _ _))
+      below_then (below_cond u.is_tree_of (step-tree n x _ _) (below_refl _)) (below_then (below_refl _) (step-tokens n x _ _))

@@ -141,7 +141,7 @@ module _ (code text part c : List ℕ) where
         let e = r.same i j ∙ f i (j + at) _ in
         record {
           stops = sym (ap (λ (u : Run). u.stops) e);
-          tree = sym (ap (λ (u : Run). u.isTree) e);
+          tree = sym (ap (λ (u : Run). u.is_tree_of) e);
           last = sym (ap (λ (u : Run). u.last) e);
           pattern = ap (elems (i + used)) (sym r.pattern_is) ∙ sym (ap (λ (u : Run). u.pattern) e);
           code_left = ap (elems (j + at)) (sym r.code_is) ∙ sym (ap (λ (u : Run). u.code) e);
@@ -152,7 +152,7 @@ module _ (code text part c : List ℕ) where
 -- without a stop nothing is left; a subtree is a stop that meets a node of the pattern
 pub record Ended (u : Run) : Type 0 where
   pub none_left : u.stops ≡ false → u.code ≡ none
-  pub at_tree : u.isTree ≡ true → (u.stops ≡ true) × (is_a_node (skip_trivia u.pattern) ≡ true) × (some u.code ≡ true)
+  pub at_tree : u.is_tree_of ≡ true → (u.stops ≡ true) × (is_a_node (skip_trivia u.pattern) ≡ true) × (some u.code ≡ true)
 
 if_ended : (b : Bool) (u v : Run) → (b ≡ true → Ended u) → (b ≡ false → Ended v) → Ended (cond b u v)
 if_ended true u v f g = f refl
@@ -176,7 +176,7 @@ run-ended code text stop last ps (node i k s e cs r) =
 -- elements: k more are before the pattern's next element that is no trivia, which begins the part q.
 pub record Reach (code text : List ℕ) (pe : ℕ) (p : List ℕ) (ce : ℕ) (c : List ℕ) (w k : ℕ) (q last left : List ℕ) (u : declared.Run) : Type 0 where
   pub stops : u.stops ≡ (run code text (rest (elems pe p)) (elems ce c)).stops
-  pub tree : u.is_tree ≡ (run code text (rest (elems pe p)) (elems ce c)).isTree
+  pub tree : u.is_tree ≡ (run code text (rest (elems pe p)) (elems ce c)).is_tree_of
   pub last_at : elems (ce + u.last) last ≡ (run code text (rest (elems pe p)) (elems ce c)).last
   pub used : elems (pe + (w + u.p)) (drop ((w + u.p) * 3) p) ≡ (run code text (rest (elems pe p)) (elems ce c)).pattern
   pub next : elems (pe + w + k) q ≡ skip_trivia (run code text (rest (elems pe p)) (elems ce c)).pattern

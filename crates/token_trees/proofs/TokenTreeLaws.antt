@@ -50,7 +50,7 @@ unfolding matchTokenTree
 tree-step n x p c = refl
 
 run_step : (n : ℕ) (x : Matcher) (p c : Elems) (u : Run) → matchRun (suc n) x p c u ≡
-    and_then (cond u.isTree (matchTokenTree n x (skip_trivia u.pattern) u.code) (matched []))
+    and_then (cond u.is_tree_of (matchTokenTree n x (skip_trivia u.pattern) u.code) (matched []))
     (and_then (capture x p c u) (matchTokens n x (behind_run u) (rest u.code)))
 unfolding matchRun
 run_step n x p c u = refl
@@ -236,7 +236,7 @@ run_at x pe p ce c = run x.code x.text (rest (elems pe p)) (elems ce c)
 
 -- the subtree that a run stops at, where it does at one
 abbrev subtree : ℕ → Matcher → Run → Attempt
-subtree n x u = cond u.isTree (matchTokenTree n x (skip_trivia u.pattern) u.code) (matched [])
+subtree n x u = cond u.is_tree_of (matchTokenTree n x (skip_trivia u.pattern) u.code) (matched [])
 
 module _ (x : Matcher) (pe : ℕ) (p : List ℕ) (ce : ℕ) (c : List ℕ) (s : State) (out : List ℕ) where
   -- it is matched, or there is none; then the placeholder is bound
@@ -258,14 +258,14 @@ module _ (x : Matcher) (pe : ℕ) (p : List ℕ) (ce : ℕ) (c : List ℕ) (s : 
   }
 
   module _ (ie : ℕ) (q : List ℕ) (je : ℕ) (left : List ℕ) (e : elems ie q ≡ skip_trivia (run_at x pe p ce c).pattern) (f : elems je left ≡ (run_at x pe p ce c).code)
-      (few : length q + length left < length p + length c) (t : (run_at x pe p ce c).isTree ≡ true) (r : Answer) (out' : List ℕ) (g : TokenTreeGives x ie q je left s out r out') where
+      (few : length q + length left < length p + length c) (t : (run_at x pe p ce c).is_tree_of ≡ true) (r : Answer) (out' : List ℕ) (g : TokenTreeGives x ie q je left s out r out') where
     tree-first : r.ok ≡ true → (m : ℕ) → 3 * (length p + length c) ≤ m → (b : Attempt) → Leads b (and_then (subtree m x (run_at x pe p ce c)) b) s out r.state out'
     tree-first o m j b = rw (t, ← e, ← f) (leads_then (matchTokenTree m x (elems ie q) (elems je left)) b s out r out' (g m (omega (arith, few, j))) o)
 
     tree_fails_lem : r.ok ≡ false → (m : ℕ) → 3 * (length p + length c) ≤ m → (b : Attempt) → Gives (and_then (subtree m x (run_at x pe p ce c)) b) s out no_match out'
     tree_fails_lem o m j b = rw (t, ← e, ← f) (fails_then (matchTokenTree m x (elems ie q) (elems je left)) b s out r out' (g m (omega (arith, few, j))) o)
 
-  none_first : (run_at x pe p ce c).isTree ≡ false → (m : ℕ) → 3 * (length p + length c) ≤ m → (b : Attempt) → Leads b (and_then (subtree m x (run_at x pe p ce c)) b) s out s out
+  none_first : (run_at x pe p ce c).is_tree_of ≡ false → (m : ℕ) → 3 * (length p + length c) ≤ m → (b : Attempt) → Leads b (and_then (subtree m x (run_at x pe p ce c)) b) s out s out
   none_first t m j b r end g = rw (t, then_nothing b) g
 
   run_stops : (out' : List ℕ) → ((m : ℕ) → 3 * (length p + length c) ≤ m → (b : Attempt) → Gives (and_then (subtree m x (run_at x pe p ce c)) b) s out no_match out')

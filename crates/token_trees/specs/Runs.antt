@@ -51,7 +51,7 @@ behind_run u = cond u.stops (rest (skip_trivia u.pattern)) u.pattern
 -- What the code gives of a run: the numbers of elements before the last one taken, used up of the pattern, and before the stop in the code.
 pub record RunIs (code text : List ℕ) (i : ℕ) (part : List ℕ) (j : ℕ) (c : List ℕ) (r : declared.Run) : Type 0 where
   pub stops : r.stops ≡ (run code text (elems i part) (elems j c)).stops
-  pub tree : r.is_tree ≡ (run code text (elems i part) (elems j c)).isTree
+  pub tree : r.is_tree ≡ (run code text (elems i part) (elems j c)).is_tree_of
   pub last : elems (j + r.last) (drop (r.last * 3) c) ≡ (run code text (elems i part) (elems j c)).last
   pub pattern : elems (i + r.p) (drop (r.p * 3) part) ≡ (run code text (elems i part) (elems j c)).pattern
   pub code_left : elems (j + r.c) (drop (r.c * 3) c) ≡ (run code text (elems i part) (elems j c)).code

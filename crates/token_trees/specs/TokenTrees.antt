@@ -38,7 +38,7 @@ unfoldable mutual
   pub matchRun : ℕ → Matcher → Elems → Elems → Run → Attempt
   matchRun zero x p c u = failed
   matchRun (suc n) x p c u =
-      and_then (cond u.isTree (matchTokenTree n x (skip_trivia u.pattern) u.code) (matched []))
+      and_then (cond u.is_tree_of (matchTokenTree n x (skip_trivia u.pattern) u.code) (matched []))
       (and_then (capture x p c u) (matchTokens n x (behind_run u) (rest u.code)))
 
 -- an answer and a buffer are right for what is left, and for two nodes

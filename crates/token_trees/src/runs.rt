@@ -9,7 +9,7 @@ use words::{fields, texts};
 
 // Whether a run ends at a stop, and whether that is a subtree; how many elements are before the last one taken, how many of the pattern are
 // used up meanwhile, and how many of the code are before the stop.
-#[derive(Drop)]
+#[derive(Clone, Copy)]
 pub struct Run {
     pub stops: bool,
     pub is_tree: bool,

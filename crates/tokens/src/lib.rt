@@ -1,12 +1,13 @@
 // Token lists: the tokens of a list of words, and whether the list is well-formed.
 #![tactic(auto)]
+
 ghost use Rattle.std.specs.Prelude.{◌≡◌, ◌∷◌, cond, ◌+◌, ◌*◌, ◌<◌, ◌≤◌, length, drop};
 ghost use Rattle.tokens.specs.Tokens.{token_at, token_text, is_token_word, is_token_list, rest, after, head_is, Along};
 
 use words::{fields, texts};
 
 // A token of a list: its kind, and where its text stands in the list's text.
-#[derive(Drop)]
+#[derive(Clone, Copy)]
 pub struct Token {
     pub kind: u32,
     pub start: usize,
@@ -14,7 +15,7 @@ pub struct Token {
 }
 
 // A place in a list: how many tokens were passed, and how many bytes they have.
-#[derive(Drop)]
+#[derive(Clone, Copy)]
 pub struct Cursor {
     pub index: usize,
     pub at: usize,

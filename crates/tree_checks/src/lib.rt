@@ -1,5 +1,6 @@
 // Whether words are a well-formed tree over a text: 18, 19 and 20.
 #![tactic(auto)]
+
 ghost use Rattle.std.specs.Prelude.{◌≡◌, true, ℕ, ◌≤◌, ◌/◌, leb, length};
 ghost use Rattle.syntax.specs.Trees.{is_token_kind, is_node_kind, elems, tiles, is_tree_of, depth};
 ghost use Rattle.syntax.specs.Rows.{in_row, is_ranged, is_token_part, is_node_head, is_node_part, is_element, every, is_root};

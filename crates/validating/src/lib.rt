@@ -1,5 +1,6 @@
 // Checking a pair: `validate_rule` of docs/src/src/parsing.rs, over token lists.
 #![tactic(auto)]
+
 ghost use Rattle.std.specs.Prelude.{◌≡◌, List, []};
 ghost use Rattle.parsing.specs.Reading.{Var, Reading};
 ghost use Rattle.parsing.specs.Answers.{Eight, pattern_of, answer_of};

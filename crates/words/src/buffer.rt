@@ -3,7 +3,7 @@ ghost use Rattle.std.specs.Prelude.{◌≡◌, ◌++◌, ◌-◌, length, take, 
 ghost use Rattle.words.specs.Buffer.{used_of, filled, place_after, laid_if_room, word_bytes};
 
 // The place behind what was laid, or that there was no room.
-#[derive(Drop)]
+#[derive(Clone, Copy)]
 pub enum Placed {
     At(usize),
     Full,

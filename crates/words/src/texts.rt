@@ -5,7 +5,7 @@ ghost use Rattle.words.specs.Texts.{part, text_of, same_text, has_prefix, stand_
 use crate::fields;
 
 // Which text an element's range is in.
-#[derive(Drop)]
+#[derive(Clone, Copy)]
 pub enum Source {
     File,
     Rule,

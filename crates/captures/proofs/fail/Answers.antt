@@ -1,0 +1,6 @@
+-- `captures::fail` meets its contract.
+use borrow.Author.Rules.{rules}
+use Rattle.captures.proofs.fail.Goals as goal
+
+pub returns : goal.returns
+returns c = rw c.start.ensures

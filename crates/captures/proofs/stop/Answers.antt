@@ -1,0 +1,6 @@
+-- `captures::stop` meets its contract.
+use borrow.Author.Rules.{rules}
+use Rattle.captures.proofs.stop.Goals as goal
+
+pub returns : goal.returns
+returns c = rw c.start.ensures

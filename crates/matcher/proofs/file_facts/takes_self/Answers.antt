@@ -1,0 +1,6 @@
+-- `matcher::file_facts::takes_self` meets its contract.
+use borrow.Author.Rules.{rules}
+use Rattle.matcher.proofs.file_facts.takes_self.Goals as goal
+
+pub returns : goal.returns
+returns c = rw (c.value.ensures, c.find.ensures)

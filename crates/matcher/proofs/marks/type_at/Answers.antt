@@ -1,0 +1,19 @@
+-- `matcher::marks::type_at` meets its contract.
+use mathlib.Core.Path.{sym, ◌∙◌}
+use Rattle.matcher.specs.Matcher.{mark}
+use Rattle.matcher.proofs.MarkLaws.{type_none, type_zero, type_is}
+use borrow.Author.Rules.{rules}
+use Rattle.matcher.proofs.marks.type_at.Goals as goal
+
+pub returns-then-w-eq0 : goal.returns-then-w-eq0
+returns-then-w-eq0 c = let l = c.args.marks.now in let e = c.args.element in
+    type_zero (mark l e 2) (mark l e 3) (sym c.word_of-w.ensures ∙ c.if-w-eq0.true)
+
+pub returns-then-is_typed : goal.returns-then-is_typed
+returns-then-is_typed c = let l = c.args.marks.now in let e = c.args.element in
+    rw c.word_of-w.ensures (type_is (mark l e 2) (mark l e 3) (λ h. c.if-w-eq0.false (c.word_of-w.ensures ∙ h))
+    (sym c.is_typed.ensures ∙ c.if-is_typed.true))
+
+pub returns : goal.returns
+returns c = let l = c.args.marks.now in let e = c.args.element in
+    type_none (mark l e 2) (mark l e 3) (sym c.is_typed.ensures ∙ c.if-is_typed.false)

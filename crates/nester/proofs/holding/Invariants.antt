@@ -1,0 +1,13 @@
+-- `nester::holding` meets its contract. The loop's invariant: none of the captured ranges passed holds the range.
+use mathlib.Core.Path.{◌≡◌}
+use Prim.Native.Nat.{◌-◌, ◌≤◌}
+use native.Mathlib.Omega.{arith}
+use borrow.Author.Rules.{rules}
+use Rattle.nester.proofs.RowLaws.{Unheld, unheld_start, unheld_next, held_here, held_nowhere}
+use Rattle.nester.proofs.holding.Given as goal
+
+abbrev pub invariant-loop-k : goal.invariant-loop-k
+invariant-loop-k l = (l.k ≤ 8) × Unheld l.rows l.row l.start l.end l.k
+
+abbrev pub decreases-loop-k : goal.decreases-loop-k
+decreases-loop-k l = 8 - l.k

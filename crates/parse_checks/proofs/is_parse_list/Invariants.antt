@@ -1,0 +1,14 @@
+-- `parse_checks::is_parse_list` meets its contract.
+use mathlib.Core.Path.{◌≡◌, refl, sym, ◌∙◌}
+use native.Mathlib.Omega.{arith}
+use borrow.Author.Rules.{rules}
+use lib.ListN.{length, length-drop}
+use Rattle.parses.specs.Parses.{is_parse_list}
+use Rattle.parses.proofs.ParseLaws.{list_step, list_none}
+use Rattle.parse_checks.proofs.is_parse_list.Given as goal
+
+abbrev pub invariant-loop-c : goal.invariant-loop-c
+invariant-loop-c l = is_parse_list l.n l.parses ≡ is_parse_list l.n l.c
+
+abbrev pub decreases-loop-c : goal.decreases-loop-c
+decreases-loop-c l = length l.c

@@ -1,0 +1,16 @@
+-- `syntax::accessors::first_token` meets its contract.
+use mathlib.Core.Path.{◌≡◌, refl, sym, ap, ◌∙◌}
+use Prim.Native.Nat.{ℕ, ◌+◌}
+use lib.ListN.{length}
+use native.Mathlib.Omega.{arith}
+use Rattle.syntax.specs.Trees.{elems}
+use Rattle.syntax.specs.Accessors.{first_token}
+use Rattle.syntax.proofs.PartLaws.{children_shorter}
+use Rattle.syntax.proofs.AccessorLaws.{first_end, first-here, first_below}
+use Rattle.syntax.proofs.accessors.first_token.Given as goal
+
+abbrev pub invariant-loop-c : goal.invariant-loop-c
+invariant-loop-c l = (i : ℕ) → (j : ℕ) × (first_token (elems j l.c) ≡ first_token (elems i l.part))
+
+abbrev pub decreases-loop-c : goal.decreases-loop-c
+decreases-loop-c l = length l.c

@@ -1,0 +1,18 @@
+-- `tokens::is_token_list` meets its contract.
+use Rattle.words.specs.Fields.{token_length}
+use Rattle.tokens.specs.Tokens.{is_token_word, all_token_words, total_length}
+use native.Mathlib.Nat.{zero-add}
+use Rattle.tokens.proofs.Laws.{all-step, all_end, total-step, total_end, too_many, not_tokens, all_tokens}
+use lib.ListN.{length, drop}
+use borrow.Author.Rules.{rules}
+use native.Mathlib.Omega.{arith}
+use Prim.Native.Nat.{◌≤◌, ◌-◌, ◌+◌, ◌*◌}
+use mathlib.Core.Bool.{true, false}
+use mathlib.Core.Path.{◌≡◌, refl, sym, ◌∙◌}
+use Rattle.tokens.proofs.is_token_list.Given as goal
+
+abbrev pub invariant-loop-i : goal.invariant-loop-i
+invariant-loop-i l = (length l.words ≤ 255) × (l.i ≤ length l.words) × (l.total ≤ 65535 * l.i) × (all_token_words l.words ≡ all_token_words (drop l.i l.words)) × (total_length l.words ≡ l.total + total_length (drop l.i l.words))
+
+abbrev pub decreases-loop-i : goal.decreases-loop-i
+decreases-loop-i l = length l.words - l.i
