@@ -1,5 +1,6 @@
 // Calls and paths: what matching asks of the pattern's element and the code's at once, by their parts and numbers.
 #![tactic(auto)]
+
 ghost use Rattle.std.specs.Prelude.{◌≡◌, List, true, ℕ, ◌+◌, ◌*◌, ◌≤◌, ◌<◌, length, drop};
 ghost use Rattle.syntax.specs.Trees.{Elems, elems};
 ghost use Rattle.syntax.specs.Accessors.{rest, number_of, find_expression};

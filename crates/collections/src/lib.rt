@@ -1,6 +1,7 @@
 // A job's nested rows, as they are rendered: the texts of the rows are those of the collections (proofs/), and how far a row's nested rows
 // reach.
 #![tactic(auto)]
+
 ghost use Rattle.std.specs.Prelude.{◌≡◌, ℕ, ◌+◌, ◌*◌, ◌≤◌, ◌<◌, length};
 ghost use Rattle.nester.specs.Rows.{Held};
 ghost use Rattle.collections.specs.Links.{link_word, Linked};

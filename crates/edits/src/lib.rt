@@ -1,5 +1,6 @@
 // The edit list's words, and the answers of a job with the buffer then.
 #![tactic(auto)]
+
 ghost use Rattle.std.specs.Prelude.{◌≡◌, [], ◌+◌, ◌≤◌, length, take, drop};
 ghost use Rattle.words.specs.Buffer.{used_of, filled, laid, place_after, laid_if_room};
 ghost use Rattle.edits.specs.Edits.{edit_words};

@@ -63,6 +63,7 @@ module _ (t : Elems) where
 
   -- who is in d: who was in c, and m if it stays
   in_old : {m y : Match} {b : Bool} {c d : Nest} → Comes m b c d → In y c → In y d
+  in_old ends p = elim p [ ]
   in_old (by e q) (first p) = first p
   in_old (by e q) (inside k p) = inside k p
   in_old (by e q) (later p) = later (in_old q p)
@@ -102,6 +103,7 @@ module _ (t : Elems) where
   ne_slot p q = let z : ◌≡◌ {A = ℕ} 0 1 = cc in omega arith
 
   stopped : {m x : Match} {b : Bool} {c d : Nest} → Comes m b c d → Meets t m x c → holding t x m ≡ nowhere → b ≡ false
+  stopped ends p n = elim p [ ]
   stopped (by e q) (here p e') n = absurd (true≢false (sym e' ∙ e))
   stopped (by e q) (past e' p) n = stopped q p n
   stopped (by e q) (down e' h' p) n = absurd (true≢false (sym e' ∙ e))

@@ -73,7 +73,7 @@ record Cut (b : ℕ) (c cs r : Elems) : Type 0 where
   first_up : ancestors b c ≡ b ∷ []
   below_at : (n : ℕ) → b + 1 ≤ n → n < b + 1 + size cs → element_at n c ≡ element_at n cs
   below_up : (n : ℕ) → b + 1 ≤ n → n < b + 1 + size cs → ancestors n c ≡ b ∷ ancestors n cs
-  behind-at : (n : ℕ) → b + (1 + size cs) ≤ n → element_at n c ≡ element_at n r
+  behind_at : (n : ℕ) → b + (1 + size cs) ≤ n → element_at n c ≡ element_at n r
   behind_up : (n : ℕ) → b + (1 + size cs) ≤ n → ancestors n c ≡ ancestors n r
 
 cut_token : (b j k s e : ℕ) (r : Elems) → Numbered b (token j k s e r) → Cut b (token j k s e r) none r
@@ -88,7 +88,7 @@ cut_token b j k s e r w = record {
   first_up = rw (eq-eqb j b w.0, w.0);
   below_at = λ n h l. absurd (omega arith);
   below_up = λ n h l. absurd (omega arith);
-  behind-at = λ n h. rw (ne_eqb j n (λ z. omega (arith, w.0)));
+  behind_at = λ n h. rw (ne_eqb j n (λ z. omega (arith, w.0)));
   behind_up = λ n h. rw (ne_eqb j n (λ z. omega (arith, w.0)));
 }
 
@@ -104,7 +104,7 @@ cut_node b j k s e cs r w inner = record {
   first_up = rw (eq-eqb j b w.0, w.0);
   below_at = λ n h l. rw (ne_eqb j n (λ z. omega (arith, w.0)), or_else_lem (element_at n cs) (element_at n r) (inner n h l).is);
   below_up = λ n h l. rw (ne_eqb j n (λ z. omega (arith, w.0)), below-some j (ancestors n cs) (ancestors n r) (inner n h l).up, w.0);
-  behind-at = λ n h. rw (ne_eqb j n (λ z. omega (arith, w.0)), no_element cs n (away cs (b + 1) n w.1 (inr (omega arith))));
+  behind_at = λ n h. rw (ne_eqb j n (λ z. omega (arith, w.0)), no_element cs n (away cs (b + 1) n w.1 (inr (omega arith))));
   behind_up = λ n h. rw (ne_eqb j n (λ z. omega (arith, w.0)), no_ancestors cs n (away cs (b + 1) n w.1 (inr (omega arith))));
 }
 
@@ -112,7 +112,7 @@ there_in : (b n : ℕ) (c cs r : Elems) → Cut b c cs r → b ≤ n → (b + 1 
 there_in b n c cs r k h inner after =
     in_zone b n (size cs) h (λ q. rw (← q) (record { is = rw k.first_at k.there; up = rw k.first_up (omega arith); self = rw k.first_up (among_first b []) }))
     (λ l m. let x = inner l m in record { is = rw (k.below_at n l m) x.is; up = rw (k.below_up n l m) (omega arith); self = rw (k.below_up n l m) (among-other n b (ancestors n cs) (λ z. omega arith) ∙ x.self) })
-    (λ l. let x = after l in record { is = rw (k.behind-at n l) x.is; up = rw (k.behind_up n l) x.up; self = rw (k.behind_up n l) x.self })
+    (λ l. let x = after l in record { is = rw (k.behind_at n l) x.is; up = rw (k.behind_up n l) x.up; self = rw (k.behind_up n l) x.self })
 
 there : (c : Elems) (b n : ℕ) → Numbered b c → b ≤ n → n < b + size c → There c n
 unfolding size
@@ -193,9 +193,9 @@ fits_in b f t n c cs r k s h inner after =
       deep = rw (k.below_up n l m) (omega arith);
       shallow = rw (k.below_up n l m) (omega (arith, x.shallow, s.deepest.0));
     })
-    (λ l. let x = after l in let z = same_start (k.behind-at n l) in let y = same_end (k.behind-at n l) in record {
-      own = rw (k.behind-at n l) x.own;
-      whole = rw (k.behind-at n l) (omega (arith, x.whole, k.count));
+    (λ l. let x = after l in let z = same_start (k.behind_at n l) in let y = same_end (k.behind_at n l) in record {
+      own = rw (k.behind_at n l) x.own;
+      whole = rw (k.behind_at n l) (omega (arith, x.whole, k.count));
       from = omega (arith, x.from, s.start, s.order);
       ordered = omega (arith, x.ordered);
       to = omega (arith, x.to);
@@ -281,7 +281,7 @@ two_in b f t i j c cs r k s h ij fitsc fitsr liner inner after =
     let sp : span_at c b ≡ 1 + size cs = same_span k.first_at ∙ k.own in
     rw (← q) (apart_two b b j c (omega arith)
     (rw (k.behind_up j far) (never (over r b j) (λ o. omega (arith, liner far (rw q at o)))))
-    (omega (arith, same_end k.first_at, same_start (k.behind-at j far), (fitsr j far (omega arith)).from)))))
+    (omega (arith, same_end k.first_at, same_start (k.behind_at j far), (fitsr j far (omega arith)).from)))))
     (λ l m. low_or j (b + (1 + size cs))
     (λ near.
     let l2 : b + 1 ≤ j = omega arith in
@@ -299,16 +299,16 @@ two_in b f t i j c cs r k s h ij fitsc fitsr liner inner after =
     let x = fitsc i l m in
     apart_two b i j c (omega (arith, x.whole))
     (rw (k.behind_up j far) (never (over r i j) (λ o. omega (arith, liner far o))))
-    (omega (arith, same_end (k.below_at i l m), same_start (k.behind-at j far), x.to, (fitsr j far (omega arith)).from))))
+    (omega (arith, same_end (k.below_at i l m), same_start (k.behind_at j far), x.to, (fitsr j far (omega arith)).from))))
     (λ l.
     let far : b + (1 + size cs) ≤ j = omega arith in
     let x = after l in
-    let sp : span_at c i ≡ span_at r i = same_span (k.behind-at i l) in
+    let sp : span_at c i ≡ span_at r i = same_span (k.behind_at i l) in
     record {
       over = rw (k.behind_up j far, sp) x.over;
       deeper = λ u. rw (k.behind_up j far, k.behind_up i l) (x.deeper (omega arith));
-      whole = λ u. omega (arith, same_span (k.behind-at j far), x.whole (omega arith));
-      after = λ u. omega (arith, same_end (k.behind-at i l), same_start (k.behind-at j far), x.after (omega arith));
+      whole = λ u. omega (arith, same_span (k.behind_at j far), x.whole (omega arith));
+      after = λ u. omega (arith, same_end (k.behind_at i l), same_start (k.behind_at j far), x.after (omega arith));
     })
 
 pub two : (c : Elems) (b f t i j : ℕ) → Numbered b c → tiles f t c ≡ true → formed tiles c ≡ true → b ≤ i → i < j → j < b + size c → Two c i j

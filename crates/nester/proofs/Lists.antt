@@ -36,6 +36,7 @@ all_append All.nil b = b
 all_append (All.more p a) b = All.more p (all_append a b)
 
 pub all_mem : {A : Type 0} {P : A → Type 0} {l : List A} {x : A} → All P l → Memᴰ x l → P x
+all_mem All.nil m = elim m [ ]
 all_mem (All.more p a) (Memᴰ.head e) = rw e p
 all_mem (All.more p a) (Memᴰ.tail m) = all_mem a m
 

@@ -1,5 +1,6 @@
 // Record lists that start over: where the siblings of pattern and code stand beside each other by order, and which of them are matched by name too.
 #![tactic(auto)]
+
 ghost use Rattle.std.specs.Prelude.{◌≡◌, not, ◌&&◌, List, ℕ, ◌+◌, ◌*◌, ◌≤◌, length, drop};
 ghost use Rattle.syntax.specs.Trees.{elems};
 ghost use Rattle.matcher.specs.declared.marks.Context.{Context};

@@ -37,8 +37,8 @@ module _ (words text : List ℕ) (c : Cursor) where
   follows d b t i h acc s = run_step h acc s ∙ ap (λ t. follow (step text acc s t) (λ acc s. run text acc s (rest words (after words c)))) (sym i) ∙ ap (λ d. follow (step text acc s t) (λ acc s. run text acc s (rest words d))) (sym b)
 
   -- the byte behind it
-  pub behind-at : (d : Cursor) → d ≡ after words c → (t : Token) → t ≡ here words c → behind t ≡ d.at
-  behind-at d b t i = ap behind i ∙ ap (λ d. d.at) (sym b)
+  pub behind_at : (d : Cursor) → d ≡ after words c → (t : Token) → t ≡ here words c → behind t ≡ d.at
+  behind_at d b t i = ap behind i ∙ ap (λ d. d.at) (sym b)
 
   -- a step to a state, or to a refusal, by the token t at the cursor
   pub goes : (d : Cursor) → d ≡ after words c → (t : Token) → t ≡ here words c → c.index < length words → (s s' : State) → ((acc : List Element) → step text acc s t ≡ go acc s') → Leads words text c d s s'

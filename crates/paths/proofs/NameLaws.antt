@@ -43,7 +43,7 @@ children_lower l p d h k e =
 pub record Climbs (g F : Elems → Bool) : Type 0 where
   pub ask_none : g none ≡ false
   pub at_none : F none ≡ false
-  pub at-token : (i k s e : ℕ) (r : Elems) → F (token i k s e r) ≡ F r
+  pub at_token : (i k s e : ℕ) (r : Elems) → F (token i k s e r) ≡ F r
   pub at_node : (i k s e : ℕ) (cs r : Elems) → F (node i k s e cs r) ≡ cond (eqb k 2) (g cs || F cs) (F r)
 
 not_between : (a k : ℕ) → (k ≡ a → ⊥) → between a a k ≡ false
@@ -53,10 +53,10 @@ module _ (g F : Elems → Bool) (w : Climbs g F) where
   climb : (c : Elems) → F c ≡ (g (children (find_node 2 2 c)) || F (children (find_node 2 2 c)))
   unfolding find_node
   climb none = rw w.ask_none
-  climb (token i k s e r) = w.at-token i k s e r ∙ climb r
+  climb (token i k s e r) = w.at_token i k s e r ∙ climb r
   climb (node i k s e cs r) = same_or k 2
-      (λ h. w.at-node i k s e cs r ∙ rw h)
-      (λ h. w.at-node i k s e cs r ∙ rw (ne_eqb k 2 h, not_between 2 k h) (climb r))
+      (λ h. w.at_node i k s e cs r ∙ rw h)
+      (λ h. w.at_node i k s e cs r ∙ rw (ne_eqb k 2 h, not_between 2 k h) (climb r))
 
   pub climb_end : (i : ℕ) (l : List ℕ) → length l < 3 → false ≡ F (elems i l)
   climb_end i l h = rw (elems_end i l h) (sym w.at_none)
@@ -74,8 +74,8 @@ module _ (g F : Elems → Bool) (w : Climbs g F) where
 -- both tests of a path do
 pub climbs_arguments : Climbs (λ cs. some (find_node 5 5 (children (segment_in cs)))) contains_type_arguments
 unfolding contains_type_arguments find_node
-climbs_arguments = record { ask_none = refl; at_none = refl; at-token = λ i k s e r. refl; at_node = λ i k s e cs r. refl }
+climbs_arguments = record { ask_none = refl; at_none = refl; at_token = λ i k s e r. refl; at_node = λ i k s e cs r. refl }
 
 pub climbs_names : (p : Placeholders) (code : List ℕ) → Climbs (λ cs. is_stand_in p (text_of code (name_in cs))) (contains_placeholder p code)
 unfolding contains_placeholder find_node first_token same_text
-climbs_names p code = record { ask_none = rw (part_none code 0, by_none p.text [] p.vars refl) (le-ltb (length p.vars) _ (le_refl _)); at_none = refl; at-token = λ i k s e r. refl; at_node = λ i k s e cs r. refl }
+climbs_names p code = record { ask_none = rw (part_none code 0, by_none p.text [] p.vars refl) (le-ltb (length p.vars) _ (le_refl _)); at_none = refl; at_token = λ i k s e r. refl; at_node = λ i k s e cs r. refl }

@@ -55,12 +55,12 @@ module _ {W : World} {rows : List ℕ} {end k : ℕ} {tree text table code fact_
   pub at_end_lem : {frames' out' : List ℕ} {at' : ℕ} → Passing W k frames' out' at' × (passed_of frames' k ≡ length (W.fragments k))
       → Shows W rows frames' k table code fact_text kind parses parse_text out' at'
   at_end_lem l = record {
-    are_rows_lem = p.at-step.shows.reads;
-    are-fragments = p.at-step.fragments;
-    is-kind = p.is-kind;
-    is-parse = p.is-parse;
+    are_rows_lem = p.at_step.shows.reads;
+    are_fragments = p.at_step.fragments;
+    is_kind = p.is_kind;
+    is_parse = p.is_parse;
     passing = l.0;
-    are-passed = l.1;
+    are_passed = l.1;
   }
 
 module _ {k : ℕ} {frames frames' out out' : List ℕ} {at : ℕ} (keeps : Keeps k frames frames' at out out') where
@@ -143,7 +143,7 @@ module _ {W : World} {h : Handed} {k : ℕ} {frames out : List ℕ} {at : ℕ} (
   at_template t spare code end is e l =
       let s = p.shown in
       record {
-        at-step = record {
+        at_step = record {
           shows = record {
             reads = s.reads;
             inside = p.inside;
@@ -158,8 +158,8 @@ module _ {W : World} {h : Handed} {k : ℕ} {frames out : List ℕ} {at : ℕ} (
               ∙ ap (λ (x : List ℕ). fragments_of x h.fact_text (take t.count spare)) (sym e);
           standing = p.standing;
         };
-        is-kind = s.kinds k p.inside ∙ sym is.kind;
-        is-parse = s.parse;
+        is_kind = s.kinds k p.inside ∙ sym is.kind;
+        is_parse = s.parse;
       }
 
   -- its kind
@@ -170,7 +170,7 @@ module _ {W : World} {h : Handed} {k : ℕ} {frames out : List ℕ} {at : ℕ} (
   pub came_low : (t : Template) (spare : List ℕ) → TemplateIs h k t spare → came frames k < 33556480
   came_low t spare is =
       let a = at_template t spare (code_of 1 (pair_at t.pair h.rules.directory h.rules.words h.rules.bytes)) (link_word h.links k 0) is refl refl in
-      omega (arith, came-below a.at-step, length-take-le t.count spare is.within, is.few)
+      omega (arith, came-below a.at_step, length-take-le t.count spare is.within, is.few)
 
   -- its comments
   pub comments_are : linked_comments h.rules h.file h.range h.rows h.links k ≡ W.comments k

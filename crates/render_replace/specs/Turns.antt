@@ -29,9 +29,9 @@ use Rattle.render_replace.specs.Answers.{Answers}
 -- the words show the row's template, its kind and the parses
 pub record AtTemplate (W : World) (rows : List ℕ) (end k : ℕ) (tree text table code fact_text : List ℕ) (kind : ℕ)
     (parses parse_text frames out : List ℕ) (at : ℕ) : Type 0 where
-  pub at-step : AtStep W rows end k tree text table code fact_text frames out at
-  pub is-kind : W.kind k ≡ kind
-  pub is-parse : W.parse ≡ lookup (parses_of parses parse_text)
+  pub at_step : AtStep W rows end k tree text table code fact_text frames out at
+  pub is_kind : W.kind k ≡ kind
+  pub is_parse : W.parse ≡ lookup (parses_of parses parse_text)
 
 -- a row stands at a place
 pub record AtRow (W : World) (h : Handed) (k : ℕ) (frames out : List ℕ) (at : ℕ) : Type 0 where

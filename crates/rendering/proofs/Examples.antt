@@ -16,7 +16,7 @@ use Rattle.parentheses.specs.Parentheses.{has_range, requires}
 use Rattle.nester.specs.Matches.{Match}
 use Rattle.nester.specs.Nest.{Nest, none as no_match, kept, start_at, end_at}
 use Rattle.nester.specs.Places.{Item, before, insert, items}
-use Rattle.rendering.specs.Events.{Unbound, NoRoom, Asked, Out, fine, event, Text, ◌andThen◌, in_turn, concat}
+use Rattle.rendering.specs.Events.{Unbound, NoRoom, Asked, Out, fine, event, Text, ◌and_then◌, in_turn, concat}
 use Rattle.rendering.specs.Texts.{Fragment, fixed, captured, Setting, binding_at, enclosed_each, parts_of, filled, rendered}
 
 -- ---- what the examples are made of
@@ -250,5 +250,5 @@ outcomes_of xs room = map (λ (x : Item Text). x.what room) xs
 -- every text comes out in its room as the table says
 answered : map (λ (e : Example). outcomes_of (items e.tree (rendered e.setting) e.matches) e.room) examples
     ≡ map (λ (e : Example). e.outcome ∷ []) examples
-unfolding part same_text or_else element_at is_among lookup has_range requires before insert items ◌andThen◌ in_turn concat binding_at enclosed_each parts_of filled
+unfolding part same_text or_else element_at is_among lookup has_range requires before insert items ◌and_then◌ in_turn concat binding_at enclosed_each parts_of filled
 answered = refl

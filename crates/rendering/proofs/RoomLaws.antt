@@ -9,7 +9,7 @@ use native.Mathlib.Nat.{add_assoc}
 use borrow.Author.Tests.{leb-true, leb-false, le-leb, lt-leb}
 use lib.Dec.{leb}
 use lib.ListN.{length, length-append}
-use Rattle.rendering.specs.Events.{NoRoom, Out, fine, event, after, lay, ◌andThen◌, in_turn, concat}
+use Rattle.rendering.specs.Events.{NoRoom, Out, fine, event, after, lay, ◌and_then◌, in_turn, concat}
 use Rattle.rendering.specs.Traces.{Trace, done, stopped, within, reach, ◌then◌, Traces, all, stops, behind, first}
 
 -- ---- an outcome that takes n bytes
@@ -95,7 +95,7 @@ reach_then (done xs) (stopped n e) = refl
 reach_then (stopped n e) u = omega arith
 
 pub within_then : (t u : Trace) → within t and_then within u ≡ within (t then u)
-unfolding ◌andThen◌ ◌then◌
+unfolding ◌and_then◌ ◌then◌
 within_then (stopped n e) u = fun_ext (λ room. in_room-after n (event e) (λ x. after (within u (room - length x)) λ y. fine (x ++ y)) room)
 within_then (done xs) (done ys) = fun_ext λ room.
     rw (length-append xs ys)

@@ -17,7 +17,7 @@ use Rattle.parentheses.specs.Parentheses.{Part, requires, wrapped}
 use Rattle.nester.specs.Matches.{Match}
 use Rattle.nester.specs.Nest.{Nest, none, kept}
 use Rattle.nester.specs.Places.{Item, before, insert, items}
-use Rattle.rendering.specs.Events.{Unbound, Asked, Out, fine, event, after, Text, lay, ◌andThen◌, in_turn, concat}
+use Rattle.rendering.specs.Events.{Unbound, Asked, Out, fine, event, after, Text, lay, ◌and_then◌, in_turn, concat}
 use Rattle.rendering.specs.Texts.{Fragment, fixed, captured, Setting, binding_at, prefix, is_parsed, enclosed, enclosed_each, parts_of, filled, captured_text, fragment_text, fragment_texts, rendered_again, judged, finished, rendered}
 use Rattle.rendering.specs.Traces.{Trace, done, stopped, within, reach, ◌then◌, Traces, all, stops, first, fragment_trace, traces_of, hole_trace, judged_trace, finished_trace, match_trace, filled_trace, slot_trace, rendered_trace}
 use Rattle.rendering.proofs.RoomLaws.{in_room-fits, in_room-after, in_room-again, outcome, within-reach, within-fits, within_then, length-concat, within_traces, joined, joined-done, joined-all, in_turn_within}
@@ -226,7 +226,7 @@ module _ (S : Setting) (m : Match) (inner : ℕ → List (Item Trace)) where
       ∙ sym (within-reach t room)
 
   pub rendered-within : rendered S m (λ k. map as_text (inner k)) ≡ within (rendered_trace S m inner)
-  unfolding match_trace ◌andThen◌
+  unfolding match_trace ◌and_then◌
   rendered-within = fun_ext λ room.
       let v : Traces = traces_of hole fs in
       let e : in_turn (fragment_texts S m texts) room ≡ within_traces v room =

@@ -48,12 +48,12 @@ behind_all (t ∷ ts) u = behind t (behind_all ts u)
 record Parted (u : Trace) (v : Traces) (ts : List (List ℕ)) : Type 0 where
   head : List ℕ
   others : List (List ℕ)
-  head_is_lem : u ≡ done head
+  head_is : u ≡ done head
   others_are : v ≡ all others
   whole : ts ≡ head ∷ others
 
 parted : (u : Trace) (v : Traces) (ts : List (List ℕ)) → first u v ≡ all ts → Parted u v ts
-parted (done x) (all xs) ts e = record { head = x; others = xs; head_is_lem = refl; others_are = refl; whole = cc }
+parted (done x) (all xs) ts e = record { head = x; others = xs; head_is = refl; others_are = refl; whole = cc }
 parted (done x) (stops n v) ts e = absurd (let z : ◌≡◌ {A = ℕ} 0 1 = cc in omega arith)
 parted (stopped n v) w ts e = absurd (let z : ◌≡◌ {A = ℕ} 0 1 = cc in omega arith)
 
@@ -63,7 +63,7 @@ unfolding traces_of behind_all
 traces_append hole [] gs ts e = let f : ts ≡ [] = cc in rw f
 traces_append hole (f ∷ fs) gs ts e =
     let p = parted (fragment_trace hole f) (traces_of hole fs) ts e in
-    ap (λ (t : Trace). first t (traces_of hole (fs ++ gs))) p.head-is
+    ap (λ (t : Trace). first t (traces_of hole (fs ++ gs))) p.head_is
     ∙ ap (behind p.head) (traces_append hole fs gs p.others p.others_are)
     ∙ ap (λ (l : List (List ℕ)). behind_all l (traces_of hole gs)) (sym p.whole)
 

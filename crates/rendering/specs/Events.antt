@@ -28,8 +28,8 @@ abbrev pub lay : List ℕ → Text
 lay bs room = cond (leb (length bs) room) (fine bs) (event NoRoom)
 
 -- one text behind another
-infixl 20 ◌andThen◌
-unfoldable pub ◌andThen◌ : Text → Text → Text
+infixl 20 ◌and_then◌
+unfoldable pub ◌and_then◌ : Text → Text → Text
 (a and_then b) room = after (a room) λ x. after (b (room - length x)) λ y. fine (x ++ y)
 
 -- texts in turn, each by itself

@@ -11,7 +11,7 @@ use Rattle.parses.specs.Parses.{Parse, Lookup, missing, handed, lookup}
 use Rattle.parentheses.specs.Parentheses.{Part, requires}
 use Rattle.nester.specs.Matches.{Match}
 use Rattle.nester.specs.Places.{Item}
-use Rattle.rendering.specs.Events.{Event, Unbound, NoRoom, Asked, Out, fine, event, after, Text, lay, ◌andThen◌, in_turn, concat}
+use Rattle.rendering.specs.Events.{Event, Unbound, NoRoom, Asked, Out, fine, event, after, Text, lay, ◌and_then◌, in_turn, concat}
 
 -- a template in turn: bytes, or a placeholder by its place in the pattern
 pub data Fragment : Type 0 where

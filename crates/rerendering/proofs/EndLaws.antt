@@ -51,16 +51,16 @@ module _ {W : World} {rows frames : List ℕ} {k : ℕ} {table code fact_text : 
   -- the trace of each fragment
   traces_are : traces_of (slot_hole W k) (W.fragments k) ≡ all texts
   traces_are =
-      let e : take (passed_of frames k) (W.fragments k) ≡ W.fragments k = rw s.are-passed (take-length (W.fragments k)) in
+      let e : take (passed_of frames k) (W.fragments k) ≡ W.fragments k = rw s.are_passed (take-length (W.fragments k)) in
       rw e at begun.are
 
   -- the row's trace goes by the parse of what stands in the buffer
   row_is : (b : Bool) (l : Lookup) → is_parsed kind ≡ b → lookup (parses_of parses parse_text) kind rendering ≡ l
       → row_trace W k ≡ (cond b (judged_trace (W.kind k) (W.fragments k) texts l) (done rendering) then done (W.comments k))
   row_is b l e f =
-      let g : is_parsed (W.kind k) ≡ b = ap is_parsed s.is-kind ∙ e in
+      let g : is_parsed (W.kind k) ≡ b = ap is_parsed s.is_kind ∙ e in
       let h : W.parse (W.kind k) (concat texts) ≡ l =
-      ap₂ (λ (p : ℕ → List ℕ → Lookup) (n : ℕ). p n (concat texts)) s.is-parse s.is-kind ∙ (rw s.passing.laid at f) in
+      ap₂ (λ (p : ℕ → List ℕ → Lookup) (n : ℕ). p n (concat texts)) s.is_parse s.is_kind ∙ (rw s.passing.laid at f) in
       match_is (W.kind k) (W.fragments k) (W.comments k) W.parse (slot_hole W k) texts traces_are ∙ rw (g, h, s.passing.laid)
 
   text-length : length rendering ≡ at - begin_of frames k
@@ -69,21 +69,21 @@ module _ {W : World} {rows frames : List ℕ} {k : ℕ} {table code fact_text : 
   -- each placeholder has its slot's text in the buffer
   each_stands : EachStands frames k (fragments_of code fact_text table)
   each_stands i slot is_receiver others l e =
-      let f : drop i (W.fragments k) ≡ captured slot is_receiver ∷ others = ap (drop i) s.are-fragments ∙ e in
-      begun.stand i slot is_receiver others l (omega (arith, s.are-passed, ap length f, length-drop i (W.fragments k))) f
+      let f : drop i (W.fragments k) ≡ captured slot is_receiver ∷ others = ap (drop i) s.are_fragments ∙ e in
+      begun.stand i slot is_receiver others l (omega (arith, s.are_passed, ap length f, length-drop i (W.fragments k))) f
 
   -- the parts are those of the texts
   measured : measured_parts rows frames k code fact_text table ≡ parts_of (W.fragments k) texts
   measured =
-      ap (λ (l : List ℕ). measured_parts l frames k code fact_text table) (sym s.are-rows)
+      ap (λ (l : List ℕ). measured_parts l frames k code fact_text table) (sym s.are_rows)
       ∙ parts_are W k frames out at begun.ends begun.slots code fact_text table texts each_stands
-      (sym (ap (traces_of (slot_hole W k)) s.are-fragments) ∙ traces_are)
-      ∙ ap (λ (fs : List Fragment). parts_of fs texts) (sym s.are-fragments)
+      (sym (ap (traces_of (slot_hole W k)) s.are_fragments) ∙ traces_are)
+      ∙ ap (λ (fs : List Fragment). parts_of fs texts) (sym s.are_fragments)
 
   -- they are as long as what stands in the buffer, so their words fit
   pub measured_total : total (measured_parts rows frames k code fact_text table) ≡ at - begin_of frames k
   measured_total =
-      rw measured (total_is (W.fragments k) texts (omega (arith, s.are-passed, begun.many)) ∙ (rw s.passing.laid at text-length))
+      rw measured (total_is (W.fragments k) texts (omega (arith, s.are_passed, begun.many)) ∙ (rw s.passing.laid at text-length))
 
   pub measurable : length out ≤ 1048576 → AllMeasurable rows frames k code fact_text table
   measurable l i j = record {

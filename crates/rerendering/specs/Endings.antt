@@ -30,12 +30,12 @@ pub record PutAgain (ranges : List NodeRange) (parts : List Part) (b at : ℕ) (
 -- the words show a world, in which row k is rendered for the first time up to a place
 pub record Shows (W : World) (rows frames : List ℕ) (k : ℕ) (table code fact_text : List ℕ) (kind : ℕ) (parses parse_text out : List ℕ) (at : ℕ)
     : Type 0 where
-  pub are_rows_lem : W.rows ≡ rows
-  pub are-fragments : W.fragments k ≡ fragments_of code fact_text table
-  pub is-kind : W.kind k ≡ kind
-  pub is-parse : W.parse ≡ lookup (parses_of parses parse_text)
+  pub are_rows : W.rows ≡ rows
+  pub are_fragments : W.fragments k ≡ fragments_of code fact_text table
+  pub is_kind : W.kind k ≡ kind
+  pub is_parse : W.parse ≡ lookup (parses_of parses parse_text)
   pub passing : Passing W k frames out at
-  pub are-passed : passed_of frames k ≡ length (W.fragments k)
+  pub are_passed : passed_of frames k ≡ length (W.fragments k)
 
 -- the text of row k stands in the buffer up to a place, but for its comments
 pub record Rendered (W : World) (k : ℕ) (frames out : List ℕ) (at : ℕ) : Type 0 where

@@ -1,5 +1,6 @@
 // What becomes of a first rendering: it is asked for, or it stands, or it is rendered again with parentheses.
 #![tactic(auto)]
+
 ghost use Rattle.std.specs.Prelude.{◌≡◌, true, ◌-◌, ◌≤◌, length, take};
 ghost use Rattle.parses.specs.Ranges.{ranges_of};
 ghost use Rattle.parses.specs.Parses.{is_parse_list};

@@ -1,5 +1,6 @@
 // A job's matches as they are rendered: rows of words, the templates in tables of numbers, and how far each text has come.
 #![tactic(auto)]
+
 pub mod told; // told.rt: a fragment of a template
 pub mod matches; // matches.rt: the rows
 pub mod frames; // frames.rt: how far each text has come

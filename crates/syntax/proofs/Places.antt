@@ -149,13 +149,13 @@ here c i n more g t e =
     let z : (n - i) * 3 ≡ 0 = omega arith in
     record { more = more; are = ap (λ (x : ℕ). drop x (words c ++ more)) z; good = subst (λ (x : ℕ). Good x c) e g; there = t }
 
-at-token : (i n j k s e : ℕ) (r : Elems) (more : List ℕ) → Good i (token j k s e r) → i ≤ n → (i + 1 ≤ n → Stands n (element_at n r) (drop ((n - (i + 1)) * 3) (words r ++ more)))
+at_token : (i n j k s e : ℕ) (r : Elems) (more : List ℕ) → Good i (token j k s e r) → i ≤ n → (i + 1 ≤ n → Stands n (element_at n r) (drop ((n - (i + 1)) * 3) (words r ++ more)))
     → (b : Bool) → eqb j n ≡ b → Stands n (element_at n (token j k s e r)) (drop ((n - i) * 3) (words (token j k s e r) ++ more))
 unfolding element_at words
-at-token i n j k s e r more g h rest true q =
+at_token i n j k s e r more g h rest true q =
     let jn : j ≡ n = eqb-true j n q in
     rw q (here (token j k s e r) i n more g refl (sym g.numbered.0 ∙ jn))
-at-token i n j k s e r more g h rest false q =
+at_token i n j k s e r more g h rest false q =
     let ne : j ≡ n → ⊥ = eqb-false j n q in
     let lt : i < n = omega (arith, ne, g.numbered.0) in
     rw (q, behind-token i n (element_word 2 k 1) (word_of 3 s) (word_of 4 e) (words r ++ more) lt) (rest (omega arith))
@@ -194,7 +194,7 @@ pub stands : (c : Elems) (i n : ℕ) (more : List ℕ) → Good i c → i ≤ n 
 unfolding size
 stands none i n more g h k = absurd (omega arith)
 stands (token j kd s e r) i n more g h k =
-    at-token i n j kd s e r more g h (λ a. stands r (i + 1) n more (good_rest-token i j kd s e r g) a (omega arith)) (eqb j n) refl
+    at_token i n j kd s e r more g h (λ a. stands r (i + 1) n more (good_rest-token i j kd s e r g) a (omega arith)) (eqb j n) refl
 stands (node j kd s e cs r) i n more g h k =
     at_node i n j kd s e cs r more g h (λ a b. stands cs (i + 1) n (words r ++ more) (good_children i j kd s e cs r g) a b)
     (λ a. stands r (i + (1 + size cs)) n more (good_rest_node i j kd s e cs r g) a (omega arith)) (eqb j n) refl (leb (i + (1 + size cs)) n) refl

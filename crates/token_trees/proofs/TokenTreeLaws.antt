@@ -296,7 +296,7 @@ module _ (x : Matcher) (pe : ℕ) (p : List ℕ) (ce : ℕ) (c : List ℕ) (s : 
     after_stop : u.stops ≡ true → elems (pe + (w + k + f)) (drop ((w + k + f) * 3) p) ≡ behind_run (run_at x pe p ce c)
     after_stop stop =
         let e : pe + (w + k) ≡ pe + w + k = omega arith in
-        pass_more pe (w + k) f p ∙ rw (← known.next-is, e, more (pe + w + k), known.next, ← known.stops, stop)
+        pass_more pe (w + k) f p ∙ rw (← known.next_is, e, more (pe + w + k), known.next, ← known.stops, stop)
 
     after_code : elems (ce + (u.c + g)) (drop ((u.c + g) * 3) c) ≡ rest (run_at x pe p ce c).code
     after_code = pass_more ce u.c g c ∙ rw (← known.left_is, rest_is (ce + u.c), known.left_at)

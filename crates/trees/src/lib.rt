@@ -1,5 +1,6 @@
 // Trees with their facts, wherever they are given: 18 to 21 of the file's and of a rule's.
 #![tactic(auto)]
+
 ghost use Rattle.std.specs.Prelude.{◌≡◌, ◌↔◌, ◌/◌, ◌≤◌, length};
 ghost use Rattle.errors.specs.declared.Outcome.TheVariants.{Accepted};
 ghost use Rattle.syntax.specs.Checks.{WellFormed};

@@ -12,7 +12,7 @@ returns : tie.Need-returns
 returns c =
     let c₃ = c.before.before.before in let c₈ = c₃.before.before.before.before.before in let c₁₁ = c₈.before.before.before in
     let a = c₁₁.before.before.before.before.before.before.before.before.before.args in
-    let q = rules_of a.directory.now a.words.now a.bytes.now a.fact-bytes in
+    let q = rules_of a.directory.now a.words.now a.bytes.now a.fact_bytes in
     let f = file_of a.tree.now a.text.now a.facts.now in
     let pass = sym c₃.lowest.ensures ∙ c.before.enum_told.given.1 in (
       c.check-stage2.ensures ∙ sym (forms_decide q f _ _ c₁₁.check-stage.ensures c₈.check-and-index-file.ensures.0 pass),
@@ -23,7 +23,7 @@ returns_2 : tie.Need-returns-2
 returns_2 c =
     let c₃ = c.before.before.before in let c₈ = c₃.before.before.before.before.before in let c₁₁ = c₈.before.before.before in
     let a = c₁₁.before.before.before.before.before.before.before.before.before.args in
-    let q = rules_of a.directory.now a.words.now a.bytes.now a.fact-bytes in
+    let q = rules_of a.directory.now a.words.now a.bytes.now a.fact_bytes in
     let f = file_of a.tree.now a.text.now a.facts.now in
     let refuse = sym c₃.lowest.ensures ∙ c.before.r.given.1 in (
       sym (trees_refuse q f _ _ c₁₁.check-stage.ensures c₈.check-and-index-file.ensures.0 _ refuse),

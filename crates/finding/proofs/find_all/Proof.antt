@@ -45,7 +45,7 @@ find-number-requires c κs =
 returns : tie.Need-returns invariant-loop decreases-loop
 returns c =
     let a = c.before.before.before.before.before.before.before.before.before.before.before.before.before.before.before.before.before.before.before.before.before.before.before.before.before.before.before.before.before.before.before.before.before.before.before.args in let l = c.before.before.before.before.before.before.before.before.before.before.before.before.before.before.before.before.before.before.before.before.before.loop in let v = l.invariant in let g = c.before.before.before.before.before.before.before.before.before.before.before.before.before.find-number in
-    let q = rules_of a.directory.now a.words.now a.bytes.now a.fact-bytes in
+    let q = rules_of a.directory.now a.words.now a.bytes.now a.fact_bytes in
     let f = file_of a.tree.now a.text.now a.facts.now in let at = attempt_of q f a.range in
     finds_all at (root_of f) (l.number + 1) a.count g.result _ (omega (arith, c.before.before.before.before.before.before.before.before.before.before.before.before.before.before.before.before.before.before.before.before.loop-test.true))
     (λ h. absurd (omega (arith, h, c.if1.true)))
@@ -54,7 +54,7 @@ returns c =
 loop-again : tie.Need-loop-preserved invariant-loop decreases-loop
 loop-again c =
     let a = c.before.before.before.before.before.before.before.before.before.before.before.before.before.before.before.before.before.before.before.before.before.before.before.before.before.before.before.before.before.before.before.before.before.before.before.args in let l = c.before.before.before.before.before.before.before.before.before.before.before.before.before.before.before.before.before.before.before.before.before.loop in let v = l.invariant in
-    let q = rules_of a.directory.now a.words.now a.bytes.now a.fact-bytes in
+    let q = rules_of a.directory.now a.words.now a.bytes.now a.fact_bytes in
     let f = file_of a.tree.now a.text.now a.facts.now in
     let g = c.before.before.before.before.before.before.before.before.before.before.before.before.before.find-number in let k = g.auto.1.1.1.1.1.1.1.1.1.1 in (
       omega (arith, c.before.before.before.before.before.before.before.before.before.before.before.before.before.before.before.before.before.before.before.before.loop-test.true),
@@ -71,7 +71,7 @@ loop-again c =
 returns_2 : tie.Need-returns-2 invariant-loop decreases-loop
 returns_2 c =
     let a = c.before.before.before.before.before.before.before.before.before.before.before.before.before.before.before.args in let l = c.before.loop in let v = l.invariant in
-    let q = rules_of a.directory.now a.words.now a.bytes.now a.fact-bytes in
+    let q = rules_of a.directory.now a.words.now a.bytes.now a.fact_bytes in
     let f = file_of a.tree.now a.text.now a.facts.now in
     finds_all (attempt_of q f a.range) (root_of f) l.number a.count l.found l.candidates v.0
     (λ _. omega (arith, c.loop-test.false)) v.7

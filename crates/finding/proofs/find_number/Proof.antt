@@ -14,7 +14,7 @@ find-rule-requires : tie.Need-find-rule-requires
 find-rule-requires c κs =
     let s = c.before.before.before.before.before.before.before.before.before.before.before.before.before.before.before.before.before.before.before.before.before.before.before in let a = s.args in let d = a.directory.now in let w = a.words.now in let b = a.bytes.now in
     let p = s.requires.1 in let e = sym c.before.before.before.before.before.before.before.before.before.rule-at.ensures ∙ c.before.before.before.before.before.before.before.rule.given.1 in (
-      (left-rule d w b a.number _ e s.requires.0.1, passed_rule d w b a.number _ e a.fact-bytes s.requires.0.0, p.0.0),
+      (left-rule d w b a.number _ e s.requires.0.1, passed_rule d w b a.number _ e a.fact_bytes s.requires.0.0, p.0.0),
       ((p.0.1, p.0.2), (p.1.0, p.1.2, p.1.3)),
     )
 
@@ -25,7 +25,7 @@ returns c =
 returns_2 : tie.Need-returns-2
 returns_2 c =
     let s = c.before.before.before.before.before.before.before.before.before.before.before.before.before.before.before.before.before.before.before.before.before.before.before.before.before.before.before.before.before.before.before.before.before.before.before.before in let a = s.args in
-    let q = rules_of a.directory.now a.words.now a.bytes.now a.fact-bytes in
+    let q = rules_of a.directory.now a.words.now a.bytes.now a.fact_bytes in
     let f = file_of a.tree.now a.text.now a.facts.now in let g = c.before.before.before.before.before.before.before.before.before.before.before.before.find-rule in
     λ cs laid.
     finds_found q f a.range a.number c.before.before.before.before.before.before.before.before.before.before.before.before.before.before.before.before.before.before.before.before.rule.given.0.0 (sym c.before.before.before.before.before.before.before.before.before.before.before.before.before.before.before.before.before.before.before.before.before.before.rule-at.ensures ∙ c.before.before.before.before.before.before.before.before.before.before.before.before.before.before.before.before.before.before.before.before.rule.given.1)

@@ -69,7 +69,7 @@ loop-again c =
     let c₂₂ = c₁₄.before.before.before.before.before.before.before.before in let c₂₃ = c₂₂.before in
     let m = c₂₃.before.before.before.before.before.before.before.before in
     let a = m.before.before.before.before.before.before.before.before.args in let l = c₂₃.loop in let v = l.invariant in
-    let q = rules_of a.directory.now a.words.now a.bytes.now a.fact-bytes in
+    let q = rules_of a.directory.now a.words.now a.bytes.now a.fact_bytes in
     let f = file_of a.tree.now a.text.now a.facts.now in
     let g = c₁₄.gather-number in let k = g.auto.1.1.1.1.1.1.1.1.1.1 in (
       omega (arith, c₂₂.loop-test.true),

@@ -16,7 +16,7 @@ gather-rule-requires c κs =
     let s = m.before.before.before.before.before.before.before.before in let a = s.args in
     let d = a.directory.now in let w = a.words.now in let b = a.bytes.now in let p = s.requires.1 in
     let e = sym c₁₀.rule-at.ensures ∙ c₈.rule.given.1 in (
-      (left-rule d w b a.number _ e s.requires.0.1, passed_rule d w b a.number _ e a.fact-bytes s.requires.0.0, p.0.0),
+      (left-rule d w b a.number _ e s.requires.0.1, passed_rule d w b a.number _ e a.fact_bytes s.requires.0.0, p.0.0),
       ((p.0.1, p.0.2, p.1.0), (p.1.2, p.1.1)),
     )
 
@@ -33,7 +33,7 @@ returns_2 c =
     let c₂₃ = c₁₄.before.before.before.before.before.before.before.before.before in let c₂₅ = c₂₃.before.before in
     let m = c₂₅.before.before.before.before.before.before.before.before in
     let s = m.before.before.before.before.before.before.before.before in let a = s.args in
-    let q = rules_of a.directory.now a.words.now a.bytes.now a.fact-bytes in
+    let q = rules_of a.directory.now a.words.now a.bytes.now a.fact_bytes in
     let f = file_of a.tree.now a.text.now a.facts.now in
     gathers_found q f a.range a.number c₂₃.rule.given.0.0
     (sym c₂₅.rule-at.ensures ∙ c₂₃.rule.given.1) c₁₄.gather-rule.ensures

@@ -11,7 +11,7 @@ use Rattle.gathering.proofs.gather_number.Tie as tie
 returns_2 : tie.Need-returns-2
 returns_2 c =
     let a = c.before.before.before.before.before.before.before.before.before.before.before.before.before.before.before.before.before.args in
-    let q = rules_of a.directory.now a.words.now a.bytes.now a.fact-bytes in
+    let q = rules_of a.directory.now a.words.now a.bytes.now a.fact_bytes in
     let f = file_of a.tree.now a.text.now a.facts.now in
     gathers_unnamed a.number (attempt_of q f a.range) (module_of f.facts) a.keys.now a.rows.now a.links.now
     (c.before.is-named.ensures c.if1.false)

@@ -17,8 +17,8 @@ use Rattle.job.proofs.job.Tie as tie
 abbrev asked : tie.Start → Job
 asked s =
     let a = s.args in
-    job_of a.directory.now a.words.now a.bytes.now a.fact-text.now (file_of a.tree.now a.text.now a.facts.now)
-    a.parses.now a.parse-text.now a.candidates.now a.range
+    job_of a.directory.now a.words.now a.bytes.now a.fact_text.now (file_of a.tree.now a.text.now a.facts.now)
+    a.parses.now a.parse_text.now a.candidates.now a.range
 
 slice-relend-prefix-job-used : tie.Need-slice-relend-prefix-job-used
 slice-relend-prefix-job-used c = rw c.used.ensures (used_within (length c.before.before.before.before.before.before.before.before.before.before.before.before.args.out.now))

@@ -18,7 +18,7 @@ returns c =
     let c₂₁ = c₉.before.before.before.before.before.before.before.before.before.before.before.before in
     let a = c₂₁.args in
     let j = asked_of a.directory.now a.words.now a.bytes.now a.tree.now a.candidates.now a.range in
-    let o = parses_outcome a.parses.now a.parse-text.now in
+    let o = parses_outcome a.parses.now a.parse_text.now in
     let e = c₃.enum_told.given.1 in
     let t = c₂.have-templates.ensures 0 a.words.now a.bytes.now c₂₁.requires.0.1 in (
       c.check-parses.ensures.0 ∙ parses_decide j o (sym c₉.check-and-order.ensures.0 ∙ e) _ t c₁.if1.true,

@@ -20,8 +20,8 @@ use Rattle.job_list.proofs.write_in.Tie as tie
 abbrev asked : tie.Start → Job
 asked s =
     let a = s.args in
-    job_of a.directory.now a.words.now a.bytes.now a.fact-text.now (file_of a.tree.now a.text.now a.facts.now)
-    a.parses.now a.parse-text.now a.candidates.now a.range
+    job_of a.directory.now a.words.now a.bytes.now a.fact_text.now (file_of a.tree.now a.text.now a.facts.now)
+    a.parses.now a.parse_text.now a.candidates.now a.range
 
 nest-candidates-requires : tie.Need-nest-candidates-requires
 nest-candidates-requires c κs = let p = c.before.before.before.before.before.before.before.before.before.before.before.before.before.before.before.before.before.before.before.before.before.before.before.before.before.before.before.before.requires in ((p.0.0.roomy, p.0.1), (p.1.0.0, p.1.1.0, p.1.1.1))

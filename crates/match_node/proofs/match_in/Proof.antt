@@ -23,7 +23,7 @@ match-asked-requires c κs =
     let c₁₉ = c₇.before.before.before.before.before.before.before.before.before.before.before.before in
     let c₃₈ = c₁₉.before.before.before.before.before.before.before.before.before.before.before.before.before.before.before.before.before.before.before in
     let a = c₃₈.args in
-    let q = rules_of a.directory.now a.words.now a.bytes.now a.fact-bytes in
+    let q = rules_of a.directory.now a.words.now a.bytes.now a.fact_bytes in
     let f = file_of a.tree.now a.text.now a.facts.now in
     let e = c₇.enum_told.given.1 in
     let h = sym c₁₉.check-and-resolve.ensures.0 ∙ e in
@@ -43,7 +43,7 @@ returns c =
     let c₃₂ = c₂₀.before.before.before.before.before.before.before.before.before.before.before.before in
     let c₅₁ = c₃₂.before.before.before.before.before.before.before.before.before.before.before.before.before.before.before.before.before.before.before in
     let a = c₅₁.args in
-    let q = rules_of a.directory.now a.words.now a.bytes.now a.fact-bytes in
+    let q = rules_of a.directory.now a.words.now a.bytes.now a.fact_bytes in
     let f = file_of a.tree.now a.text.now a.facts.now in
     let o = match_asked q f a.question.rule a.question.range a.question.node
     (sym c₃₂.check-and-resolve.ensures.0 ∙ c₂₀.enum_told.given.1) in
@@ -59,7 +59,7 @@ returns_2 c =
     let c₁₇ = c₅.before.before.before.before.before.before.before.before.before.before.before.before in
     let c₃₆ = c₁₇.before.before.before.before.before.before.before.before.before.before.before.before.before.before.before.before.before.before.before in
     let a = c₃₆.args in
-    let q = rules_of a.directory.now a.words.now a.bytes.now a.fact-bytes in
+    let q = rules_of a.directory.now a.words.now a.bytes.now a.fact_bytes in
     let f = file_of a.tree.now a.text.now a.facts.now in
     let o = match_refused q f a.question.rule a.question.range a.question.node _
     (sym c₁₇.check-and-resolve.ensures.0 ∙ c₅.r.given.1) in

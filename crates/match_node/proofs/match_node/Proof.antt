@@ -34,7 +34,7 @@ returns c =
     let c₁₂ = c₄.before.before.before.before.before.before.before.before in
     let a = c₁₂.args in let d = a.out.now in let u = c₄.used.ensures in let l : length (take (used_of (length d)) d) ≡ used_of (length d) =
     length-take-le (used_of (length d)) d (used_within (length d)) in let q = rules_of a.directory.now a.words.now a.bytes.now
-    a.fact-bytes in let f = file_of a.tree.now a.text.now a.facts.now in let m = rw u at c₂.match-used.ensures in (
+    a.fact_bytes in let f = file_of a.tree.now a.text.now a.facts.now in let m = rw u at c₂.match-used.ensures in (
       rw l at
           m.0,
       rw u (buffer_part q f a.question.rule a.question.range a.question.node d _ m.1),

@@ -13,6 +13,7 @@ use Rattle.nester.proofs.RowSteps.{nested-none, next_held, next-given, nested_by
 use Rattle.nester.proofs.LastLaws.{Last, clear_before, last_none, last_by, last-next}
 use Rattle.std.proofs.Common.{rules}
 use Rattle.nester.proofs.nest_and_remove_collisions.Goals as goal
+use Rattle.nester.proofs.nest_and_remove_collisions.Goals.{then-field-eq1, else-field-eq1}
 
 pub loop-i-init : goal.loop-i-init
 loop-i-init c = (omega arith, nested-none (tree c.args.words.now) c.args.rows.now, last_none (tree c.args.words.now) c.args.rows.now)
@@ -26,7 +27,7 @@ settle-s-requires c = let l = c.loop-i in
     let b = c.args.rows.now in
     let given = next-given t b c.args.count c.requires.candidates c.requires.by_index l.i c.loop-i-test.true l.rows l.invariant.1 in
     let held = next_held t b c.args.count c.requires.candidates c.requires.by_index l.i c.loop-i-test.true l.rows l.invariant.1 in
-    let clear = clear_before t (tree_laws c.args.words.now c.requires.well_formed) l.rows l.i l.new given l.invariant.2 in record { well_formed = c.requires.well_formed; candidates = given; held = held; first_le_row = (l.invariant.2.before, clear) }
+    let clear = clear_before t (tree_laws c.args.words.now c.requires.well_formed) l.rows l.i l.last given l.invariant.2 in record { well_formed = c.requires.well_formed; candidates = given; held = held; first_le_row = (l.invariant.2.before, clear) }
 
 pub overflow_cast-rows : goal.overflow_cast-rows
 overflow_cast-rows c = omega (arith, c.settle-s.ensures.high, c.requires.candidates.few, c.loop-i-test.true)
@@ -72,21 +73,21 @@ loop-i-preserved c = let l = c.loop-i in
     let lt = c.loop-i-test.true in
     let t = tree c.args.words.now in
     let b = c.args.rows.now in
-    ⊎_elim
-    (λ h.
-    let m = sym c.field.ensures ∙ h.0.taken in
-    let o = h.2.ensures in
-    let r = h.2.result in
-    let stay = nodes_stay t b c.args.count c.requires.candidates c.requires.by_index l.i lt l.rows l.invariant.1 r o m in
-    let states = states_stay t b c.args.count c.requires.candidates c.requires.by_index l.i lt l.rows l.invariant.1 r o m in
-    let nested = nested-next t b c.args.count c.requires.candidates c.requires.by_index l.i lt l.rows l.invariant.1 r o m in
-    let last = last-next t l.rows _ l.i stay states r o l.new c.if-field-eq1.new l.invariant.2 (h.7 ∙ h.5.ensures) in
-    (omega arith, subst (λ (r : List ℕ). Nested t (l.i + 1) b r) (sym h.6) nested, subst (λ (r : List ℕ). Last t r c.if-field-eq1.new (l.i + 1)) (sym h.6) last))
-    (λ h.
-    let nested = nested_by t b c.args.count c.requires.candidates c.requires.by_index l.i lt l.rows l.invariant.1 (λ e. h.0.left (c.field.ensures ∙ e)) in
-    let last = last_by t l.rows l.new l.i l.invariant.2 in
-    (omega arith, subst (λ (r : List ℕ). Nested t (l.i + 1) b r) (sym h.1) nested, rw (h.1, h.2) last))
-    c.if-field-eq1.branch
+    elim c.if-field-eq1.branch [
+      then-field-eq1 w ↦ (
+        let m = sym c.field.ensures ∙ w.if-field-eq1.true in
+        let o = w.settle-s.ensures in
+        let r = w.settle-s.result in
+        let stay = nodes_stay t b c.args.count c.requires.candidates c.requires.by_index l.i lt l.rows l.invariant.1 r o m in
+        let states = states_stay t b c.args.count c.requires.candidates c.requires.by_index l.i lt l.rows l.invariant.1 r o m in
+        let nested = nested-next t b c.args.count c.requires.candidates c.requires.by_index l.i lt l.rows l.invariant.1 r o m in
+        let last = last-next t l.rows _ l.i stay states r o l.last c.if-field-eq1.last l.invariant.2 (w.last-is ∙ w.last_outer-last.ensures) in
+        (omega arith, subst (λ (r : List ℕ). Nested t (l.i + 1) b r) (sym w.rows-is) nested, subst (λ (r : List ℕ). Last t r c.if-field-eq1.last (l.i + 1)) (sym w.rows-is) last))
+      | else-field-eq1 w ↦ (
+        let nested = nested_by t b c.args.count c.requires.candidates c.requires.by_index l.i lt l.rows l.invariant.1 (λ e. w.if-field-eq1.false (c.field.ensures ∙ e)) in
+        let last = last_by t l.rows l.last l.i l.invariant.2 in
+        (omega arith, subst (λ (r : List ℕ). Nested t (l.i + 1) b r) (sym w.rows-is) nested, rw (w.rows-is, w.last-is) last))
+    ]
 
 pub shape_of-rows : goal.shape_of-rows
 shape_of-rows c = c.loop-i.invariant.1.long

@@ -13,6 +13,7 @@ use Rattle.nester.specs.Rows.{field, bindings_in, slot_of}
 use Rattle.nester.proofs.RowLaws.{Coming, met, taken, range-given, coming_from, coming_by, coming_in, settles_lost, settles}
 use Rattle.std.proofs.Common.{rules}
 use Rattle.nester.proofs.settle.Goals as goal
+use Rattle.nester.proofs.settle.Goals.{then-meets+else-k-eq8, else-meets}
 
 pub field-node-requires : goal.field-node-requires
 field-node-requires c = let p = c.requires.candidates.few in (omega arith, omega arith)
@@ -62,13 +63,14 @@ loop-i-preserved c = let w = c.args.words.now in
     let lt = c.loop-i-test.true in
     let rg = range-given w n (field rows row 0) (elems n c.element.result.now) c.range_of-range.result (c.range_of-range.ensures n) c.element.ensures.result_value c.field-node.ensures in
     let m : c.meets.result ≡ met (tree w) rows row l.state l.slot l.i = rw c.field-node.ensures at c.meets.ensures in
-    ⊎_elim
-    (λ h.
-    let q : taken (tree w) rows row l.i ≡ slot_of h.1.result = ap (λ (r : Range). holder 0 (bindings_in rows l.i) r.start r.end) (sym rg) ∙ h.1.ensures.0 in
-    let o = coming_in (tree w) rows row c.requires.candidates c.requires.held l.i l.state l.slot h.1.result lt l.invariant (sym m ∙ h.0.taken) (omega (arith, h.1.ensures.1, h.2.left)) q in
-    rw (h.3, h.4) o)
-    (λ h. let o = coming_by (tree w) rows row c.requires.candidates c.requires.held l.i l.state l.slot lt l.invariant (sym m ∙ h.0.left) in rw (h.1, h.2) o)
-    c.if-meets.branch
+    elim c.if-meets.branch [
+      then-meets+else-k-eq8 w ↦ (
+        let q : taken (tree c.args.words.now) rows row l.i ≡ slot_of w.holding-k.result = ap (λ (r : Range). holder 0 (bindings_in rows l.i) r.start r.end) (sym rg) ∙ w.holding-k.ensures.end_value in
+        let o = coming_in (tree c.args.words.now) rows row c.requires.candidates c.requires.held l.i l.state l.slot w.holding-k.result lt l.invariant (sym m ∙ w.if-meets.true) (omega (arith, w.holding-k.ensures.upper_bound, w.if-k-eq8.false)) q in
+        rw (w.state-is, w.slot-is) o)
+      | else-meets w ↦ (
+        let o = coming_by (tree c.args.words.now) rows row c.requires.candidates c.requires.held l.i l.state l.slot lt l.invariant (sym m ∙ w.if-meets.false) in rw (w.state-is, w.slot-is) o)
+    ]
 
 pub returns : goal.returns
 returns c = let l = c.loop-i in

@@ -13,7 +13,7 @@ use Rattle.readying.proofs.make_ready.Statement.{statement}
 use Rattle.readying.proofs.make_ready.Tie as tie
 
 abbrev given : tie.Start → Rules
-given s = rules_of s.args.directory.now s.args.words.now s.args.bytes.now s.args.fact-bytes
+given s = rules_of s.args.directory.now s.args.words.now s.args.bytes.now s.args.fact_bytes
 
 returns : tie.Need-returns
 returns c =
@@ -36,7 +36,7 @@ ready-pieces-requires c κs =
     let h = rule_form_lem (given s) a.number rule e s.requires.1.0.1 in (
       (
         omega (arith, ef, h, l.low),
-        rw ep at (passed_rule d w b a.number rule e a.fact-bytes s.requires.0.0),
+        rw ep at (passed_rule d w b a.number rule e a.fact_bytes s.requires.0.0),
         roomy_after _ _ _ _ _ s.requires.1.0.0 v.1 refl refl refl refl,
       ),
       rw ep at (template_stands _ rule _ l ef h),

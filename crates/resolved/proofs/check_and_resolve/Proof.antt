@@ -17,7 +17,7 @@ resolve-pairs-requires c κs =
     let c₁₀ = c₄.before.before.before.before.before.before in
     let c₂₄ = c₁₀.before.before.before.before.before.before.before.before.before.before.before.before.before.before in
     let a = c₂₄.args in
-    let q = rules_of a.directory.now a.words.now a.bytes.now a.fact-bytes in
+    let q = rules_of a.directory.now a.words.now a.bytes.now a.fact_bytes in
     let f = file_of a.tree.now a.text.now a.facts.now in (
       trees_accepted q f (sym c₁₀.check-given.ensures.0 ∙ c₄.enum_told.given.1),
       roomy_after _ _ _ _ _ c₂₄.requires.0 (le_refl _) refl c₁₀.check-given.auto.1.1.1.1.1.1.1.1.0 refl refl,
@@ -30,7 +30,7 @@ returns c =
     let c₂₀ = c₁₄.before.before.before.before.before.before in
     let c₃₄ = c₂₀.before.before.before.before.before.before.before.before.before.before.before.before.before.before in
     let a = c₃₄.args in
-    let q = rules_of a.directory.now a.words.now a.bytes.now a.fact-bytes in
+    let q = rules_of a.directory.now a.words.now a.bytes.now a.fact_bytes in
     let f = file_of a.tree.now a.text.now a.facts.now in
     let e = c₁₄.enum_told.given.1 in (
       all_resolve q f (sym c₂₀.check-given.ensures.0 ∙ e) (not_true _ (sym c.if1.true ∙ c₉.resolve-pairs.ensures)),
@@ -44,7 +44,7 @@ returns_2 c =
     let c₂₀ = c₁₄.before.before.before.before.before.before in
     let c₃₄ = c₂₀.before.before.before.before.before.before.before.before.before.before.before.before.before.before in
     let a = c₃₄.args in
-    let q = rules_of a.directory.now a.words.now a.bytes.now a.fact-bytes in
+    let q = rules_of a.directory.now a.words.now a.bytes.now a.fact_bytes in
     let f = file_of a.tree.now a.text.now a.facts.now in
     let e = sym c₂₀.check-given.ensures.0 ∙ c₁₄.enum_told.given.1 in
     (path_fails q f e (not_false _ (sym c.if1.false ∙ c₉.resolve-pairs.ensures)), λ e. absurd (refused_not e))
@@ -55,7 +55,7 @@ returns-3 c =
     let c₇ = c₁.before.before.before.before.before.before in
     let c₂₁ = c₇.before.before.before.before.before.before.before.before.before.before.before.before.before.before in
     let a = c₂₁.args in
-    let q = rules_of a.directory.now a.words.now a.bytes.now a.fact-bytes in
+    let q = rules_of a.directory.now a.words.now a.bytes.now a.fact_bytes in
     let f = file_of a.tree.now a.text.now a.facts.now in
     (given_refuses q f _ (sym c₇.check-given.ensures.0 ∙ c₁.r.given.1), λ e. absurd (refused_not e))
 

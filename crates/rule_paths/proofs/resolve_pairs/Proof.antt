@@ -34,9 +34,9 @@ resolve-pair-requires : tie.Need-resolve-pair-requires invariant-loop decreases-
 resolve-pair-requires c κs =
     let c₄ = c.before.before.before.before in let c₅ = c₄.before in
     let c₁₃ = c₅.before.before.before.before.before.before.before.before in
-    let s = c₁₃ in let l = c₅.loop in let t = stage-both TreesWithFacts s.args.fact-bytes l.n l.row.now l.w.now l.b.now
+    let s = c₁₃ in let l = c₅.loop in let t = stage-both TreesWithFacts s.args.fact_bytes l.n l.row.now l.w.now l.b.now
     c₄.loop-test.true l.invariant.1 in (
-      record { bytes = s.args.fact-bytes; trees = t.0 },
+      record { bytes = s.args.fact_bytes; trees = t.0 },
       roomy_after _ _ _ _ _ s.requires.1 l.invariant.2
           l.invariant.3 l.invariant.4 l.invariant.5 l.invariant.6,
     )
@@ -67,7 +67,7 @@ loop-again c =
     let c₁₇ = c₁₂.before.before.before.before.before in let c₁₈ = c₁₇.before in
     let c₂₆ = c₁₈.before.before.before.before.before.before.before.before in
     let s = c₂₆ in let l = c₁₈.loop in let d = l.row.now in let w = l.w.now in let b = l.b.now in let k = c₁₂.resolve-pair.auto in let t
-    = stage-both TreesWithFacts s.args.fact-bytes l.n d w b c₁₇.loop-test.true l.invariant.1 in let f = not_true (pair_fails (pair_of d w b))
+    = stage-both TreesWithFacts s.args.fact_bytes l.n d w b c₁₇.loop-test.true l.invariant.1 in let f = not_true (pair_fails (pair_of d w b))
     (sym c₃.if1.true ∙ c₁₂.resolve-pair.ensures) in (
       l.invariant.0 ∙ pairs_next l.n d w b c₁₇.loop-test.true ∙ rw (
         f,

@@ -26,15 +26,15 @@ find_name-requires c = c.requires.eight
 pub loop-i-preserved : goal.loop-i-preserved
 loop-i-preserved c = let a = c.args in let l = c.loop-i in (
   omega arith,
-  λ ps ts h k. l.invariant.1 ps ts h k ∙ defines_at a.pattern_text.now a.template_text.now a.pattern a.t4 l.i c.find_name.result ps ts h k c.loop-i-test.true (c.find_name.ensures ∙ rw
+  λ ps ts h k. l.invariant.1 ps ts h k ∙ defines_at a.pattern_text.now a.template_text.now a.pattern a.template l.i c.find_name.result ps ts h k c.loop-i-test.true (c.find_name.ensures ∙ rw
       c.part_of-name.ensures) ∙ rw (lt-ltb _ _ c.if-find_name-pattern.true),
 )
 
 pub returns-else-find_name-pattern : goal.returns-else-find_name-pattern
 returns-else-find_name-pattern c = let a = c.args in let l = c.loop-i in λ ps ts h k. sym (l.invariant.1 ps ts h k ∙ defines_at a.pattern_text.now a.template_text.now
-    a.pattern a.t4 l.i c.find_name.result ps ts h k c.loop-i-test.true (c.find_name.ensures ∙ rw c.part_of-name.ensures) ∙ rw
+    a.pattern a.template l.i c.find_name.result ps ts h k c.loop-i-test.true (c.find_name.ensures ∙ rw c.part_of-name.ensures) ∙ rw
     (le-ltb _ _ c.if-find_name-pattern.false))
 
 pub returns : goal.returns
 returns c = let a = c.args in let l = c.loop-i in λ ps ts h k. sym (l.invariant.1 ps ts h k ∙ defines_end a.pattern_text.now ps a.template_text.now
-    ts l.i (omega (arith, count_of a.t4 ts [] k)))
+    ts l.i (omega (arith, count_of a.template ts [] k)))

@@ -16,8 +16,8 @@ use Rattle.walk.proofs.check_and_write.Tie as tie
 abbrev asked : tie.Start → Job
 asked s =
     let a = s.args in
-    walk_of a.directory.now a.words.now a.bytes.now a.fact-text.now (file_of a.tree.now a.text.now a.facts.now)
-    a.parses.now a.parse-text.now a.range
+    walk_of a.directory.now a.words.now a.bytes.now a.fact_text.now (file_of a.tree.now a.text.now a.facts.now)
+    a.parses.now a.parse_text.now a.range
 
 write-found-requires : tie.Need-write-found-requires
 write-found-requires c κs =

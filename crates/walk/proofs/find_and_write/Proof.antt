@@ -22,8 +22,8 @@ use Rattle.walk.proofs.find_and_write.Tie as tie
 abbrev asked : tie.Start → Job
 asked s =
     let a = s.args in
-    walk_of a.directory.now a.words.now a.bytes.now a.fact-text.now (file_of a.tree.now a.text.now a.facts.now)
-    a.parses.now a.parse-text.now a.range
+    walk_of a.directory.now a.words.now a.bytes.now a.fact_text.now (file_of a.tree.now a.text.now a.facts.now)
+    a.parses.now a.parse_text.now a.range
 
 find-all-requires : tie.Need-find-all-requires
 find-all-requires c κs =
@@ -39,11 +39,11 @@ returns : tie.Need-returns
 returns c =
     let s = c.before.before.before.before.before.before.before.before.before.before.before.before.before.before.before.before.before.before.before.before.before.before.before.before.before.before.before.before.before.before.before.before.before.before.before.before.before.before.before.before.before.before.before.before in let a = s.args in let f = c.before.before.refuse.ensures in let g = c.before.before.before.before.before.before.before.before.before.before.before.before.before.before.before.before.before.find-all in
     let m =
-    finds_matches a.directory.now a.words.now a.bytes.now a.fact-text.now (file_of a.tree.now a.text.now a.facts.now)
-    a.parses.now a.parse-text.now a.range _ g.result _ c.before.before.before.before.before.before.before.before.before.before.before.before.before.before.before.before.before.before.before.before.before.before.before.before.count-rules.ensures g.ensures in
+    finds_matches a.directory.now a.words.now a.bytes.now a.fact_text.now (file_of a.tree.now a.text.now a.facts.now)
+    a.parses.now a.parse_text.now a.range _ g.result _ c.before.before.before.before.before.before.before.before.before.before.before.before.before.before.before.before.before.before.before.before.before.before.before.before.count-rules.ensures g.ensures in
     let e =
     answers_refused (list_in (asked s) (length a.out.now)) a.out.now _ _
-    (too_many_matches (asked s) (parses_outcome a.parses.now a.parse-text.now) (m.many c.before.before.before.before.if1.true)) in
+    (too_many_matches (asked s) (parses_outcome a.parses.now a.parse_text.now) (m.many c.before.before.before.before.if1.true)) in
     (f.0 ∙ e.0, f.1 ∙ e.1)
 
 check-and-write-requires : tie.Need-check-and-write-requires
@@ -51,8 +51,8 @@ check-and-write-requires c κs =
     let s = c.before.before.before.before.before.before.before.before.before.before.before.before.before.before.before.before.before.before.before.before.before.before.before.before.before.before.before.before.before.before.before.before.before.before.before.before.before.before.before.before.before.before.before.before.before.before.before.before.before in let a = s.args in let p = s.requires in let g = c.before.before.before.before.before.before.before.before.before.before.before.before.before.before.before.before.before.before.before.before.before.before.find-all in
     let few : g.result ≤ 1024 = omega (arith, c.before.before.before.before.before.before.before.before.before.if1.false) in
     let m =
-    finds_matches a.directory.now a.words.now a.bytes.now a.fact-text.now (file_of a.tree.now a.text.now a.facts.now)
-    a.parses.now a.parse-text.now a.range _ g.result _ c.before.before.before.before.before.before.before.before.before.before.before.before.before.before.before.before.before.before.before.before.before.before.before.before.before.before.before.before.before.count-rules.ensures g.ensures in
+    finds_matches a.directory.now a.words.now a.bytes.now a.fact_text.now (file_of a.tree.now a.text.now a.facts.now)
+    a.parses.now a.parse_text.now a.range _ g.result _ c.before.before.before.before.before.before.before.before.before.before.before.before.before.before.before.before.before.before.before.before.before.before.before.before.before.before.before.before.before.count-rules.ensures g.ensures in
     let spare = g.auto.1.1.1.1.1.1.1.1.1.1.1.0 in let paths = g.auto.1.1.1.1.1.1.1.1.1.1.1.1.0 in let calls = g.auto.1.1.1.1.1.1.1.1.1.1.1.1.1.0 in (
       (
         roomy_after _ _ _ _ _ p.0.0 (le_refl _) g.auto.1.1.1.1.1.1.1.1.1.1.0 spare paths calls,
@@ -72,12 +72,12 @@ returns_2 c =
     let s = c.before.before.before.before.before.before.before.before.before.before.before.before.before.before.before.before.before.before.before.before.before.before.before.before.before.before.before.before.before.before.before.before.before.before.before.before.before.before.before.before.before.before.before.before.before.before.before.before.before.before.before.before.before.before.before.before.before.before.before.before.before.before.before.before.before.before in let a = s.args in let w = c.before.before.before.before.before.before.before.before.before.before.before.before.before.before.before.before.check-and-write.ensures in let g = c.before.before.before.before.before.before.before.before.before.before.before.before.before.before.before.before.before.before.before.before.before.before.before.before.before.before.before.before.before.before.before.before.before.before.before.before.before.before.before.find-all in
     let few : g.result ≤ 1024 = omega (arith, c.before.before.before.before.before.before.before.before.before.before.before.before.before.before.before.before.before.before.before.before.before.before.before.before.before.before.if1.false) in
     let m =
-    finds_matches a.directory.now a.words.now a.bytes.now a.fact-text.now (file_of a.tree.now a.text.now a.facts.now)
-    a.parses.now a.parse-text.now a.range _ g.result _ c.before.before.before.before.before.before.before.before.before.before.before.before.before.before.before.before.before.before.before.before.before.before.before.before.before.before.before.before.before.before.before.before.before.before.before.before.before.before.before.before.before.before.before.before.before.before.count-rules.ensures g.ensures in
+    finds_matches a.directory.now a.words.now a.bytes.now a.fact_text.now (file_of a.tree.now a.text.now a.facts.now)
+    a.parses.now a.parse_text.now a.range _ g.result _ c.before.before.before.before.before.before.before.before.before.before.before.before.before.before.before.before.before.before.before.before.before.before.before.before.before.before.before.before.before.before.before.before.before.before.before.before.before.before.before.before.before.before.before.before.before.before.count-rules.ensures g.ensures in
     let n : length (walk_matches (asked s)) ≤ 1024 = omega (arith, few, (m.few few).count) in
     let e =
     answers_same (list_in (asked s) (length a.out.now)) a.out.now _ _
-    (few_matches (asked s) (parses_outcome a.parses.now a.parse-text.now) n) in
+    (few_matches (asked s) (parses_outcome a.parses.now a.parse_text.now) n) in
     (w.0 ∙ e.0, w.1 ∙ e.1)
 
 pub find-and-write-spec : {M : Type 1} → statement M

@@ -18,8 +18,8 @@ use Rattle.walk.proofs.walk.Tie as tie
 abbrev asked : tie.Start → Job
 asked s =
     let a = s.args in
-    walk_of a.directory.now a.words.now a.bytes.now a.fact-text.now (file_of a.tree.now a.text.now a.facts.now)
-    a.parses.now a.parse-text.now a.range
+    walk_of a.directory.now a.words.now a.bytes.now a.fact_text.now (file_of a.tree.now a.text.now a.facts.now)
+    a.parses.now a.parse_text.now a.range
 
 slice-relend-prefix-walk-used : tie.Need-slice-relend-prefix-walk-used
 slice-relend-prefix-walk-used c = rw c.used.ensures (used_within (length c.before.before.before.before.before.before.before.before.before.before.before.args.out.now))

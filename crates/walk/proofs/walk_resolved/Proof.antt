@@ -17,8 +17,8 @@ use Rattle.walk.proofs.walk_resolved.Tie as tie
 abbrev asked : tie.Start → Job
 asked s =
     let a = s.args in
-    walk_of a.directory.now a.words.now a.bytes.now a.fact-text.now (file_of a.tree.now a.text.now a.facts.now)
-    a.parses.now a.parse-text.now a.range
+    walk_of a.directory.now a.words.now a.bytes.now a.fact_text.now (file_of a.tree.now a.text.now a.facts.now)
+    a.parses.now a.parse_text.now a.range
 
 find-and-write-requires : tie.Need-find-and-write-requires
 find-and-write-requires c κs =
@@ -32,7 +32,7 @@ returns c =
     let o = sym c.before.before.before.before.before.before.before.before.before.before.before.before.before.before.before.before.before.before.before.before.before.before.before.before.before.before.before.before.before.before.check-rules.ensures ∙ c.before.before.before.before.before.before.before.before.before.before.before.before.before.before.before.before.before.before.before.before.before.before.before.before.before.before.before.before.enum_told.given.1 in
     let e =
     answers_same (list_in (asked s) (length a.out.now)) a.out.now _ _
-    (rules_pass (asked s) (parses_outcome a.parses.now a.parse-text.now) o) in
+    (rules_pass (asked s) (parses_outcome a.parses.now a.parse_text.now) o) in
     (w.0 ∙ e.0, w.1 ∙ e.1)
 
 returns_2 : tie.Need-returns-2
@@ -40,7 +40,7 @@ returns_2 c =
     let s = c.before.before.before.before.before.before.before.before.before.before.before.before.before.before.before.before.before.before.before.before.before.before.before.before.before.before.before in let a = s.args in let f = c.before.before.refuse.ensures in let r = c.before.before.before.before.before.r.given in
     let e =
     answers_refused (list_in (asked s) (length a.out.now)) a.out.now _ r.0.0
-    (rules_refuse (asked s) (parses_outcome a.parses.now a.parse-text.now) r.0.0 (sym c.before.before.before.before.before.before.before.check-rules.ensures ∙ r.1)) in
+    (rules_refuse (asked s) (parses_outcome a.parses.now a.parse_text.now) r.0.0 (sym c.before.before.before.before.before.before.before.check-rules.ensures ∙ r.1)) in
     (f.0 ∙ e.0, f.1 ∙ e.1)
 
 pub walk-resolved-spec : {M : Type 1} → statement M

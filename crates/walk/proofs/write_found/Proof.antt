@@ -27,8 +27,8 @@ table s = s.args.candidates.now
 abbrev asked : tie.Start → Job
 asked s =
     let a = s.args in
-    walk_of a.directory.now a.words.now a.bytes.now a.fact-text.now (file_of a.tree.now a.text.now a.facts.now)
-    a.parses.now a.parse-text.now a.range
+    walk_of a.directory.now a.words.now a.bytes.now a.fact_text.now (file_of a.tree.now a.text.now a.facts.now)
+    a.parses.now a.parse_text.now a.range
 
 -- the part that was laid, and its length
 abbrev laid : tie.Start → List ℕ
@@ -64,8 +64,8 @@ write-checked-requires c κs =
       (
         s.requires.1.0,
         (
-          checked_found a.directory.now a.words.now a.bytes.now a.fact-text.now
-              (file_of a.tree.now a.text.now a.facts.now) a.parses.now a.parse-text.now a.range (laid s) (laid-words s)
+          checked_found a.directory.now a.words.now a.bytes.now a.fact_text.now
+              (file_of a.tree.now a.text.now a.facts.now) a.parses.now a.parse_text.now a.range (laid s) (laid-words s)
               a.file-index.now (o.new.1.0 ++ drop a.found a.keys.now) p.0.0 m p.0.1
               (sorted_part (laid s) o.new.1.0 (drop a.found a.keys.now) o.ensures),
           s.requires.1.1.0.3,
@@ -77,8 +77,8 @@ returns : tie.Need-returns
 returns c =
     let s = c.before.before.before.before.before.before.before.before.before.before.before.before.before.before.before.before.before.before.before.before.before.before.before.before.before.before.before.before.before.before.before.before.before.before.before.before.before.before.before.before.before.before.before.before.before.before.before.before in let a = s.args in let w = c.before.before.before.before.before.before.before.before.before.before.before.before.write_checked.ensures in
     let l =
-    list_found a.directory.now a.words.now a.bytes.now a.fact-text.now (file_of a.tree.now a.text.now a.facts.now)
-    a.parses.now a.parse-text.now a.range (laid s) (laid-words s) (length a.out.now) in
+    list_found a.directory.now a.words.now a.bytes.now a.fact_text.now (file_of a.tree.now a.text.now a.facts.now)
+    a.parses.now a.parse_text.now a.range (laid s) (laid-words s) (length a.out.now) in
     (w.0 ∙ ap answer_of l, w.1 ∙ ap (λ x. filled a.out.now (bytes_of x)) l)
 
 pub write-found-spec : {M : Type 1} → statement M

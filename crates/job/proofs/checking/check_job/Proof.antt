@@ -18,8 +18,8 @@ check-asked-requires c κs =
     let a = c₃₇.args in
     let f = file_of a.tree.now a.text.now a.facts.now in
     let j =
-    job_of a.directory.now a.words.now a.bytes.now a.fact-text.now f
-    a.parses.now a.parse-text.now a.candidates.now a.range in
+    job_of a.directory.now a.words.now a.bytes.now a.fact_text.now f
+    a.parses.now a.parse_text.now a.candidates.now a.range in
     let e = c₂.enum_told.given.1 in
     (((c₁₄.check-and-resolve.ensures.1 e).0, forms_passed (rules_in j) f (sym c₁₄.check-and-resolve.ensures.0 ∙ e)), c₃₇.requires.1.1)
 
@@ -32,8 +32,8 @@ returns c =
     let a = c₄₂.args in
     let f = file_of a.tree.now a.text.now a.facts.now in
     let j =
-    job_of a.directory.now a.words.now a.bytes.now a.fact-text.now f
-    a.parses.now a.parse-text.now a.candidates.now a.range in
+    job_of a.directory.now a.words.now a.bytes.now a.fact_text.now f
+    a.parses.now a.parse_text.now a.candidates.now a.range in
     let e = c₇.enum_told.given.1 in
     let h = sym c₁₉.check-and-resolve.ensures.0 ∙ e in (
       c₄.check-asked.ensures.0 ∙ checks_asked j h,
@@ -49,8 +49,8 @@ returns_2 c =
     let a = c₃₆.args in
     let f = file_of a.tree.now a.text.now a.facts.now in
     let j =
-    job_of a.directory.now a.words.now a.bytes.now a.fact-text.now f
-    a.parses.now a.parse-text.now a.candidates.now a.range in
+    job_of a.directory.now a.words.now a.bytes.now a.fact_text.now f
+    a.parses.now a.parse_text.now a.candidates.now a.range in
     (checks_refuse j _ (sym c₁₃.check-and-resolve.ensures.0 ∙ c₁.r.given.1), λ e. absurd (refused_not e))
 
 pub check-job-spec : {M : Type 1} → statement M

@@ -1,6 +1,6 @@
 -- `parsing::constraints::parse_inside` meets its contract.
 use native.Mathlib.Nat.{zero-add}
-use Rattle.parsing.proofs.Laws.{follows, behind-at, run_end, goes, stops}
+use Rattle.parsing.proofs.Laws.{follows, behind_at, run_end, goes, stops}
 use borrow.Author.Tests.{eq-eqb, ne_eqb}
 use Rattle.errors.specs.declared.Refusal.TheVariants.{UnexpectedToken}
 use Rattle.parsing.specs.Reading.{constraint, inside, is_colon, is_closing_brace}
@@ -39,7 +39,7 @@ returns-then-token-eq6 c = let a = c.args in let w = a.words.now in let t = a.te
       ap
           (λ x. x.index) c.next-d.ensures.value,
       λ acc p. follows w t a.c d c.next-d.ensures.value tok c.token_at-token.ensures c.if-words-c.false acc
-          (inside p) ∙ rw (i, j, behind-at w t a.c d c.next-d.ensures.value tok c.token_at-token.ensures),
+          (inside p) ∙ rw (i, j, behind_at w t a.c d c.next-d.ensures.value tok c.token_at-token.ensures),
     )
 
 pub returns : goal.returns

@@ -3,7 +3,7 @@ use mathlib.Core.List.{[]}
 use Rattle.errors.specs.declared.Refusal.TheVariants.{NeitherNameNorBrace}
 use Rattle.parsing.proofs.ListLaws.{from_braced}
 use Rattle.parsing.proofs.PatternLaws.{from_named}
-use Rattle.parsing.proofs.Laws.{follows, behind-at, run_end, goes, stops}
+use Rattle.parsing.proofs.Laws.{follows, behind_at, run_end, goes, stops}
 use Rattle.parsing.specs.Reading.{dollar, brace, is_open_brace, is_ident}
 use borrow.Author.Tests.{eq-eqb, ne_eqb}
 use native.Mathlib.Omega.{arith}
@@ -26,7 +26,7 @@ returns-then-token-eq1 c = let a = c.args in let w = a.words.now in let t = a.te
     (omega (arith, x)) (omega (arith, x, c.requires.constraints_bound)) c.requires.fifty refl (λ vs h. h) (λ acc. follows w t a.c d c.next-d.ensures.value
     tok c.token_at-token.ensures c.if-words-c.false acc (dollar a.start) ∙ rw (
       i,
-      behind-at w t a.c d c.next-d.ensures.value tok
+      behind_at w t a.c d c.next-d.ensures.value tok
           c.token_at-token.ensures,
     )) c.take_named.ensures
 

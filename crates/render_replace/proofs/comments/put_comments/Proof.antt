@@ -19,14 +19,14 @@ abbrev start : tie.After-match-pair → tie.Start
 start c = c.before.before.before.before.before.before.before.before.before.before.before.before.before.before.before.before.before.before.before.before.before.before.before.before
 
 found : (c : tie.After-match-pair) → let a = (start c).args in
-    found_rule (rules_of a.directory.now a.words.now a.bytes.now a.fact-bytes) a.question.rule ≡ At c.before.before.before.before.before.before.before.before.rule.given.0.0
+    found_rule (rules_of a.directory.now a.words.now a.bytes.now a.fact_bytes) a.question.rule ≡ At c.before.before.before.before.before.before.before.before.rule.given.0.0
 found c = sym c.before.before.before.before.before.before.before.before.before.before.rule-at.ensures ∙ c.before.before.before.before.before.before.before.before.rule.given.1
 
 match-pair-requires : tie.Need-match-pair-requires
 match-pair-requires c κs =
     let s = c.before.before.before.before.before.before.before.before.before.before.before.before.before.before.before.before.before.before.before.before.before.before.before in let a = s.args in let d = a.directory.now in let w = a.words.now in let b = a.bytes.now in
     let e = sym c.before.before.before.before.before.before.before.before.before.rule-at.ensures ∙ c.before.before.before.before.before.before.before.rule.given.1 in let p = s.requires.0 in let f = s.requires.1 in (
-      (left-rule d w b a.question.rule _ e p.0.paths, passed_rule d w b a.question.rule _ e a.fact-bytes p.0.trees, p.1),
+      (left-rule d w b a.question.rule _ e p.0.paths, passed_rule d w b a.question.rule _ e a.fact_bytes p.0.trees, p.1),
       (p.2, f.0, f.1),
     )
 
@@ -44,7 +44,7 @@ returns : tie.Need-returns
 returns c =
     let m = c.before.before.before.before.before.before.before.before.before.before.before.before.before.before in let s = start m in let a = s.args in let r = m.match-pair in
     comments_fit a.out.now r.last.1.1.1.1.1.1.1.1.1.1.1.1.1.1.0 a.at s.pre.1.2 r.result _ _
-    (noted_are (rules_of a.directory.now a.words.now a.bytes.now a.fact-bytes) (file_of a.tree.now a.text.now a.facts.now)
+    (noted_are (rules_of a.directory.now a.words.now a.bytes.now a.fact_bytes) (file_of a.tree.now a.text.now a.facts.now)
     a.question.range a.question.rule a.question.node _ (found m))
     r.ensures.1 c.if1.true
 
@@ -52,7 +52,7 @@ returns_2 : tie.Need-returns-2
 returns_2 c =
     let s = c.before.before.before.before.before.before.before.before.before.before.before.before.before.before.before.before in let a = s.args in let o = a.out.now in
     subst (λ (bs : List ℕ). Grows o o a.at a.at bs)
-    (sym (noted-none (rules_of a.directory.now a.words.now a.bytes.now a.fact-bytes) (file_of a.tree.now a.text.now a.facts.now)
+    (sym (noted-none (rules_of a.directory.now a.words.now a.bytes.now a.fact_bytes) (file_of a.tree.now a.text.now a.facts.now)
     a.question.range a.question.rule a.question.node (sym c.before.before.rule-at.ensures ∙ c.enum_told.given.1)))
     (grows_none o a.at s.requires.1.2)
 
@@ -60,7 +60,7 @@ returns-3 : tie.Need-returns-3
 returns-3 c =
     let m = c.before.before.before.before.before.before.before.before.before.before.before.before.before.before in let s = start m in let a = s.args in let r = m.match-pair in
     comments_pass a.out.now r.last.1.1.1.1.1.1.1.1.1.1.1.1.1.1.0 a.at s.pre.1.2 r.result _ _
-    (noted_are (rules_of a.directory.now a.words.now a.bytes.now a.fact-bytes) (file_of a.tree.now a.text.now a.facts.now)
+    (noted_are (rules_of a.directory.now a.words.now a.bytes.now a.fact_bytes) (file_of a.tree.now a.text.now a.facts.now)
     a.question.range a.question.rule a.question.node _ (found m))
     r.ensures.1 c.if1.false
 

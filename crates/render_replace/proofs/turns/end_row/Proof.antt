@@ -28,7 +28,7 @@ returns : tie.Need-returns
 returns c =
     let a = c.before.before.before.before.before.before.before.before.before.before.before.before.before.before.before.before.before.before.before.before.before.before.before.before.before.before.before.before.before.before.before.before.before.before.before.before.before.before.before.before.before.before.before.args in let r = c.before.before.before.before.before.before.before.before.before.before.before.before.before.before.before.before.before.put-comments in (
       none_at_hand c.before.before.before.before.no-template.ensures,
-      ended_some (rules_of a.directory.now a.words.now a.bytes.now a.fact-bytes) (file_of a.tree.now a.text.now a.facts.now)
+      ended_some (rules_of a.directory.now a.words.now a.bytes.now a.fact_bytes) (file_of a.tree.now a.text.now a.facts.now)
           a.range a.rows.now a.links.now a.k0 a.k a.out.now a.at _ r.new.1.1.1.1.1.1.1.1.1.1.1.1.1.1.0 (placed.At c.before.before.placed.given.0.0) _ _
           (sym c.before.before.before.before.before.before.before.before.before.before.before.before.before.before.before.before.before.before.before.before.before.before.before.before.before.before.before.link.ensures ∙ c.before.before.before.before.before.before.before.before.before.before.before.before.before.before.before.before.before.before.before.before.before.before.before.before.before.before.if1.true) c.before.before.before.before.before.before.before.before.before.before.before.before.before.before.before.before.before.before.before.before.before.before.before.before.before.word.ensures c.before.before.before.before.before.before.before.before.before.before.before.before.before.before.before.before.before.before.before.before.before.before.before.before.word2.ensures
           (rw c.before.before.placed.given.1 at r.ensures) c.go-back.ensures,
@@ -38,7 +38,7 @@ returns_2 : tie.Need-returns-2
 returns_2 c =
     let a = c.before.before.before.before.before.before.before.before.before.before.before.before.before.before.before.before.before.before.before.before.before.before.before.before.before.before.before.before.before.before.before.before.before.before.before.before.before.before.before.before.before.args in let r = c.before.before.before.before.before.before.before.before.before.before.before.before.before.before.before.put-comments in (
       none_at_hand c.before.before.no-template.ensures,
-      ended_some (rules_of a.directory.now a.words.now a.bytes.now a.fact-bytes) (file_of a.tree.now a.text.now a.facts.now)
+      ended_some (rules_of a.directory.now a.words.now a.bytes.now a.fact_bytes) (file_of a.tree.now a.text.now a.facts.now)
           a.range a.rows.now a.links.now a.k0 a.k a.out.now a.at _ r.new.1.1.1.1.1.1.1.1.1.1.1.1.1.1.0 placed.Full _ _
           (sym c.before.before.before.before.before.before.before.before.before.before.before.before.before.before.before.before.before.before.before.before.before.before.before.before.before.link.ensures ∙ c.before.before.before.before.before.before.before.before.before.before.before.before.before.before.before.before.before.before.before.before.before.before.before.before.if1.true) c.before.before.before.before.before.before.before.before.before.before.before.before.before.before.before.before.before.before.before.before.before.before.before.word.ensures c.before.before.before.before.before.before.before.before.before.before.before.before.before.before.before.before.before.before.before.before.before.before.word2.ensures
           (rw c.enum_told.given.1 at r.ensures) refl,
@@ -51,7 +51,7 @@ returns-3 : tie.Need-returns-3
 returns-3 c =
     let s = c.before.before.before.before.before.before.before.before.before.before.before.before.before.before.before.before.before.before in let a = s.args in (
       s.requires.1.0.3,
-      ended-none (rules_of a.directory.now a.words.now a.bytes.now a.fact-bytes) (file_of a.tree.now a.text.now a.facts.now)
+      ended-none (rules_of a.directory.now a.words.now a.bytes.now a.fact_bytes) (file_of a.tree.now a.text.now a.facts.now)
           a.range a.rows.now a.links.now a.k0 a.k a.out.now a.at _
           (λ e. c.before.if1.false (c.before.before.link.ensures ∙ e)) s.requires.1.0.2 c.go-back2.ensures,
     )

@@ -21,7 +21,7 @@ start c = c.before.before.before.before.before.before.before.before.before.befor
 
 -- the template is the row's
 is_template : (c : tie.After-make-ready) → let a = (start c).args in let r = c.make-ready in
-    TemplateOf (rules_of a.directory.now a.words.now a.bytes.now (length a.fact-text.now)) (field a.rows.now a.k 1) (link_word a.links.now a.k 2) r.result r.new.1.1.1.1.1.1.1.1.0
+    TemplateOf (rules_of a.directory.now a.words.now a.bytes.now (length a.fact_text.now)) (field a.rows.now a.k 1) (link_word a.links.now a.k 2) r.result r.new.1.1.1.1.1.1.1.1.0
 is_template c = template_as c.make-ready.ensures.0 c.before.before.before.before.before.before.before.word.ensures c.before.before.before.before.before.before.link.ensures
 
 -- and its code is the pair's
@@ -40,7 +40,7 @@ make-ready-requires c κs =
       (
         (
           p.0.1.roomy,
-          subst (λ (n : ℕ). rule_form (found_rule (rules_of a.directory.now a.words.now a.bytes.now (length a.fact-text.now)) n) < 5) (sym c.before.before.before.before.before.before.word.ensures)
+          subst (λ (n : ℕ). rule_form (found_rule (rules_of a.directory.now a.words.now a.bytes.now (length a.fact_text.now)) n) < 5) (sym c.before.before.before.before.before.before.word.ensures)
               (h.shown.templates a.k h.inside),
         ),
         p.1.0.2,

@@ -78,7 +78,7 @@ returns c =
     let c₃₃ = c₂₅.before.before.before.before.before.before.before.before in
     let s = c₃₃ in let a = s.args in let p : Pair = pair_of a.row.now a.words.now a.bytes.now in let t = c₂₅.tree.ensures in let f =
     c₆.facts.ensures in element_is p a.side a.form a.element c₁₅.resolve-side.result _ _ c₁₅.resolve-side.ensures.1
-    s.requires.0.3 (rw (← t) c₂₄.if1.true) c₄.path-at.result c₁.call_at.result c.contains.result (rw (← f) c₄.path-at.ensures)
+    s.requires.0.3 (rw (← t) c₂₄.if1.true) c₄.path_at.result c₁.call_at.result c.contains.result (rw (← f) c₄.path_at.ensures)
     (rw (← f) c₁.call_at.ensures) (rw (← t) (c.contains.ensures 0))
 
 returns_2 : tie.Need-returns-2

@@ -24,7 +24,7 @@ ask-pair-requires c κs =
           a.bytes.now a.number _ e s.requires.0.1,
       (
         passed_rule a.directory.now a.words.now a.bytes.now a.number _ e
-            a.fact-bytes s.requires.0.0,
+            a.fact_bytes s.requires.0.0,
         s.requires.1,
       ),
     )

@@ -21,7 +21,7 @@ resolve-pairs-requires c κs =
     let c₄ = c.before.before.before.before in let c₆ = c₄.before.before in
     let c₁₄ = c₆.before.before.before.before.before.before.before.before in
     let s = c₁₄ in let a = s.args in (
-      trees_pass TreesWithFacts a.fact-bytes a.directory.now a.words.now a.bytes.now (sym
+      trees_pass TreesWithFacts a.fact_bytes a.directory.now a.words.now a.bytes.now (sym
           c₆.check-rules.ensures ∙ c₄.enum_told.given.1),
       s.requires,
     )
@@ -34,7 +34,7 @@ ask-requires c κs =
     let c₂₈ = c₂₀.before.before.before.before.before.before.before.before in
     let s = c₂₈ in let a = s.args in let k = c₁₃.resolve-pairs.auto in (
       (
-        trees_pass TreesWithFacts a.fact-bytes a.directory.now a.words.now a.bytes.now (sym c₂₀.check-rules.ensures ∙ c₁₈.enum_told.given.1),
+        trees_pass TreesWithFacts a.fact_bytes a.directory.now a.words.now a.bytes.now (sym c₂₀.check-rules.ensures ∙ c₁₈.enum_told.given.1),
         not_true _ (sym c₄.if1.true ∙
             c₁₃.resolve-pairs.ensures),
       ),
@@ -61,7 +61,7 @@ returns c =
     let c₂₂ = c₁₃.before.before.before.before.before.before.before.before.before in
     let c₂₇ = c₂₂.before.before.before.before.before in let c₂₉ = c₂₇.before.before in
     let c₃₇ = c₂₉.before.before.before.before.before.before.before.before in
-    let a = c₃₇.args in c₈.ask.ensures ∙ sym (rw (resolve_passes a.fact-bytes a.directory.now a.words.now a.bytes.now (sym
+    let a = c₃₇.args in c₈.ask.ensures ∙ sym (rw (resolve_passes a.fact_bytes a.directory.now a.words.now a.bytes.now (sym
     c₂₉.check-rules.ensures ∙ c₂₇.enum_told.given.1) (not_true _ (sym c₁₃.if1.true ∙ c₂₂.resolve-pairs.ensures))))
 
 enum-known-r : tie.Need-enum-known-r
@@ -84,14 +84,14 @@ returns_2 c =
     let c₉ = c.before.before.before.before.before.before.before.before.before in
     let c₁₄ = c₉.before.before.before.before.before in let c₁₆ = c₁₄.before.before in
     let c₂₄ = c₁₆.before.before.before.before.before.before.before.before in
-    let a = c₂₄.args in sym (rw (resolve_fails a.fact-bytes a.directory.now a.words.now a.bytes.now (sym
+    let a = c₂₄.args in sym (rw (resolve_fails a.fact_bytes a.directory.now a.words.now a.bytes.now (sym
     c₁₆.check-rules.ensures ∙ c₁₄.enum_told.given.1) (not_false _ (sym c.if1.false ∙ c₉.resolve-pairs.ensures))))
 
 returns-3 : tie.Need-returns-3
 returns-3 c =
     let c₁ = c.before in let c₃ = c₁.before.before in
     let c₁₁ = c₃.before.before.before.before.before.before.before.before in
-    let a = c₁₁.args in sym (rw (resolve_refused a.fact-bytes a.directory.now a.words.now a.bytes.now _ (sym
+    let a = c₁₁.args in sym (rw (resolve_refused a.fact_bytes a.directory.now a.words.now a.bytes.now _ (sym
     c₃.check-rules.ensures ∙ c₁.r.given.1)))
 
 pub resolve-in-spec : {M : Type 1} → statement M

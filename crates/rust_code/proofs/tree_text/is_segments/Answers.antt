@@ -26,14 +26,14 @@ pub eat_placeholder-requires : goal.eat_placeholder-requires
 eat_placeholder-requires c = c.loop-i.invariant.1
 
 pub returns-in_default : goal.returns-in_default
-returns-in_default c = let a = c.args in let l = c.loop-i in let ps = a.t4.placeholders in let n = a.t4.count in let len : length (take n ps) ≡ n = length-take-le
+returns-in_default c = let a = c.args in let l = c.loop-i in let ps = a.pattern.placeholders in let n = a.pattern.count in let len : length (take n ps) ≡ n = length-take-le
     n ps (omega (arith, c.requires.few, c.requires.places)) in let x : Eats a.code.now l.at (segment a.text.now l.from (get_or ps l.i
     no_placeholder)) Differs = rw c.in_default.is at c.eat_placeholder.ensures in sym (l.invariant.2 ∙ left_differs a.text.now a.end
     (take n ps) a.code.now l.at l.from l.i (get_or ps l.i no_placeholder) (omega arith) (get_or-take n ps l.i no_placeholder (omega
     arith)) x)
 
 pub loop-i-preserved : goal.loop-i-preserved
-loop-i-preserved c = let a = c.args in let l = c.loop-i in let ps = a.t4.placeholders in let n = a.t4.count in let m = c.in-At.m in let len : length
+loop-i-preserved c = let a = c.args in let l = c.loop-i in let ps = a.pattern.placeholders in let n = a.pattern.count in let m = c.in-At.m in let len : length
     (take n ps) ≡ n = length-take-le n ps (omega (arith, c.requires.few, c.requires.places)) in let x : Eats a.code.now l.at (segment a.text.now l.from (get_or ps l.i no_placeholder)) (At m) = rw c.in-At.is at c.eat_placeholder.ensures in (
       omega arith,
       x.1,
@@ -42,7 +42,7 @@ loop-i-preserved c = let a = c.args in let l = c.loop-i in let ps = a.t4.placeho
     )
 
 pub returns : goal.returns
-returns c = let a = c.args in let l = c.loop-i in let ps = a.t4.placeholders in let n = a.t4.count in let len : length (take n ps) ≡ n = length-take-le
+returns c = let a = c.args in let l = c.loop-i in let ps = a.pattern.placeholders in let n = a.pattern.count in let len : length (take n ps) ≡ n = length-take-le
     n ps (omega (arith, c.requires.few, c.requires.places)) in let r : c.same_text.result ≡ same_text (part a.text.now l.from a.end) (drop
     l.at a.code.now) = rw (c.part_of.ensures, c.part_of-2.ensures, part-rest a.code.now l.at l.invariant.1) at
     c.same_text.ensures in r ∙ sym (l.invariant.2 ∙ left_end a.text.now a.end (take n ps) a.code.now l.at l.from l.i (omega

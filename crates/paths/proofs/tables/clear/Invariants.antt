@@ -1,0 +1,14 @@
+-- `paths::tables::clear` meets its contract.
+use mathlib.Core.Path.{◌≡◌, refl, ◌∙◌}
+use mathlib.Core.List.{◌++◌, append-nil}
+use Prim.Native.Nat.{◌≤◌, ◌-◌}
+use native.Mathlib.Omega.{arith}
+use borrow.Author.Fill.{fill_more}
+use lib.ListN.{length, drop, replicate, length-set, drop_of_length-le}
+use Rattle.paths.proofs.tables.clear.Given as goal
+
+abbrev pub invariant-loop-i : goal.invariant-loop-i
+invariant-loop-i l = (l.i ≤ length l.initial.table) × (length l.table ≡ length l.initial.table) × (l.table ≡ replicate l.i 0 ++ drop l.i l.initial.table)
+
+abbrev pub decreases-loop-i : goal.decreases-loop-i
+decreases-loop-i l = length l.initial.table - l.i

@@ -1,0 +1,11 @@
+-- `replacing::pieces::put_text` meets its contract.
+use borrow.Author.Rules.{rules}
+use mathlib.Core.Path.{refl}
+use Rattle.replacing.proofs.LayLaws.{lays_put}
+use Rattle.replacing.proofs.pieces.put_text.Goals as goal
+
+pub returns-in-At : goal.returns-in-At
+returns-in-At c = let a = c.args in record { lays = rw c.in-At.is at (lays_put a.out.now a.at a.text.now c.put.result c.put.new.out c.put.ensures.value c.put.ensures.out_after); frames_then = c.pass_piece.ensures }
+
+pub returns-in-Full : goal.returns-in-Full
+returns-in-Full c = let a = c.args in record { lays = rw c.in-Full.is at (lays_put a.out.now a.at a.text.now c.put.result c.put.new.out c.put.ensures.value c.put.ensures.out_after); frames_then = refl }

@@ -1,0 +1,6 @@
+-- `replacing::turns::goes_on` meets its contract.
+use borrow.Author.Rules.{rules}
+use Rattle.replacing.proofs.turns.goes_on.Goals as goal
+
+pub returns : goal.returns
+returns c = rw (c.word-2.ensures.0, c.word.ensures.0)

@@ -1,0 +1,19 @@
+-- `rules::numbering::rule_at` meets its contract.
+use lib.ListN.{get_or, length}
+use mathlib.Core.Bool.{Bool}
+use mathlib.Core.List.{List}
+use Prim.Native.Nat.{ℕ, ◌-◌, ◌+◌, ◌≤◌}
+use mathlib.Core.Path.{◌≡◌, ◌∙◌, sym, ap}
+use native.Mathlib.Omega.{arith}
+use Rattle.fragments.specs.Directory.{row_count}
+use Rattle.fragments.specs.Pairs.{pairs_of, pairs}
+use Rattle.rules.specs.Forms.{kept}
+use Rattle.rules.specs.Numbering.{rules, rules_from, rule_at}
+use Rattle.rules.proofs.RuleLaws.{at_first, at-later, at_none}
+use Rattle.rules.proofs.numbering.rule_at.Given as goal
+
+abbrev pub invariant-loop-pair : goal.invariant-loop-pair
+invariant-loop-pair l = (rule_at (rules (pairs l.directory l.words l.bytes)) l.number ≡ rule_at (rules_from l.pair (pairs_of (l.n - l.pair) l.row l.w l.b)) l.left) × (l.pair ≤ l.n)
+
+abbrev pub decreases-loop-pair : goal.decreases-loop-pair
+decreases-loop-pair l = l.n - l.pair

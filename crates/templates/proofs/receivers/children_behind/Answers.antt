@@ -1,0 +1,6 @@
+-- `templates::receivers::children_behind` meets its contract.
+use borrow.Author.Rules.{rules}
+use Rattle.templates.proofs.receivers.children_behind.Goals as goal
+
+pub returns : goal.returns
+returns c = rw (c.children.ensures, c.tail.ensures)
