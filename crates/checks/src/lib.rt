@@ -1,5 +1,6 @@
 // What is handed in and checked before rules are resolved: the rules, and the file's tree with its facts among the rules' trees.
 #![tactic(auto)]
+
 ghost use Rattle.std.specs.Prelude.{◌≡◌, [], ◌∷◌, ◌/◌, ◌≤◌, length};
 ghost use Rattle.errors.specs.declared.Outcome.TheVariants.{Accepted};
 ghost use Rattle.errors.specs.Refusals.{in_turn};

@@ -1,6 +1,7 @@
 // Resolving the trees of rules. The four tables are lent: the facts' index with its spare, and those of the paths and of the calls, which
 // are of the last tree resolved.
 #![tactic(auto)]
+
 ghost use Rattle.std.specs.Prelude.{◌≡◌, true, not, ◌&&◌, map, ◌≤◌, ◌/◌, length};
 ghost use Rattle.errors.specs.declared.Outcome.TheVariants.{Accepted};
 ghost use Rattle.syntax.specs.Trees.{tree};

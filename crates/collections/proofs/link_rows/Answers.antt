@@ -1,13 +1,14 @@
 -- `collections::link_rows` meets its contract. The loop's invariant: the rows passed are linked.
 use mathlib.Core.Path.{◌≡◌, sym, ap, subst, ◌∙◌}
 use mathlib.Core.Logic.{⊎_elim}
-use Prim.Native.Nat.{ℕ, ◌+◌, ◌-◌, ◌*◌, ◌≤◌}
+use Prim.Native.Nat.{ℕ, ◌+◌, ◌-◌, ◌*◌}
 use native.Mathlib.Omega.{arith}
 use lib.ListN.{set}
 use Rattle.nester.specs.Rows.{field}
 use Rattle.collections.specs.Links.{Linked}
 use Rattle.collections.proofs.LinkLaws.{linked_none, linked_by, linked_next}
 use Rattle.collections.proofs.link_rows.Goals as goal
+use Rattle.collections.proofs.link_rows.Goals.{then-state-ge3, else-state-ge3}
 
 pub loop-j-init : goal.loop-j-init
 loop-j-init c = (omega arith, linked_none c.args.rows.now c.args.count c.requires.held c.args.links.now c.requires.count_bound.1 c.requires.by_index)
@@ -27,11 +28,11 @@ loop-j-preserved c = let l = c.loop-j in
     let lt = c.loop-j-test.true in
     let e : c.word-state.result ≡ field rows l.j 2 = c.word-state.ensures in (
       omega arith,
-      ⊎_elim
-          (λ h. subst (Linked rows (l.j + 1) links) (sym (h.1 ∙ ap (λ (n : ℕ). set l.links (3 * (n - 3)) (l.j + 1)) e))
-          (next l.j lt l.links l.invariant.1 (omega (arith, h.0.taken))))
-          (λ h. subst (Linked rows (l.j + 1) links) (sym h.1) (by l.j lt l.links l.invariant.1 (omega (arith, h.0.left))))
-          c.if-state-ge3.branch,
+      elim c.if-state-ge3.branch [
+          then-state-ge3 w ↦ subst (Linked rows (l.j + 1) links) (sym (w.links-is ∙ ap (λ (n : ℕ). set l.links (3 * (n - 3)) (l.j + 1)) e))
+          (next l.j lt l.links l.invariant.1 (omega (arith, w.if-state-ge3.true)))
+          | else-state-ge3 w ↦ subst (Linked rows (l.j + 1) links) (sym w.links-is) (by l.j lt l.links l.invariant.1 (omega (arith, w.if-state-ge3.false)))
+      ],
     )
 
 pub returns : goal.returns

@@ -1,12 +1,6 @@
 -- `collections::link_rows` meets its contract. The loop's invariant: the rows passed are linked.
-use mathlib.Core.Path.{◌≡◌, sym, ap, subst, ◌∙◌}
-use mathlib.Core.Logic.{⊎_elim}
-use Prim.Native.Nat.{ℕ, ◌+◌, ◌-◌, ◌*◌, ◌≤◌}
-use native.Mathlib.Omega.{arith}
-use lib.ListN.{set}
-use Rattle.nester.specs.Rows.{field}
+use Prim.Native.Nat.{◌-◌, ◌≤◌}
 use Rattle.collections.specs.Links.{Linked}
-use Rattle.collections.proofs.LinkLaws.{linked_none, linked_by, linked_next}
 use Rattle.collections.proofs.link_rows.Given as goal
 
 abbrev pub invariant-loop-j : goal.invariant-loop-j

@@ -1,9 +1,9 @@
 -- `rerendering::measure_parts` meets its contract: the words up to i are those of the fragments up to i.
-use mathlib.Core.Path.{◌≡◌, refl, sym, ◌∙◌}
-use Prim.Native.Nat.{◌-◌, ◌≤◌}
+use mathlib.Core.Path.{refl, sym, ◌∙◌}
+use Prim.Native.Nat.{◌-◌}
 use native.Mathlib.Omega.{arith}
-use lib.ListN.{length, take, length-set}
-use Rattle.rerendering.specs.Parts.{part_word, part_words}
+use lib.ListN.{length-set}
+use Rattle.rerendering.specs.Parts.{part_word}
 use Rattle.rerendering.proofs.PartLaws.{mapped_more, mapped_all}
 use Rattle.rerendering.proofs.measure_parts.Goals as goal
 

@@ -1,10 +1,8 @@
 -- `rerendering::measure_parts` meets its contract: the words up to i are those of the fragments up to i.
-use mathlib.Core.Path.{◌≡◌, refl, sym, ◌∙◌}
+use mathlib.Core.Path.{◌≡◌}
 use Prim.Native.Nat.{◌-◌, ◌≤◌}
-use native.Mathlib.Omega.{arith}
-use lib.ListN.{length, take, length-set}
-use Rattle.rerendering.specs.Parts.{part_word, part_words}
-use Rattle.rerendering.proofs.PartLaws.{mapped_more, mapped_all}
+use lib.ListN.{length, take}
+use Rattle.rerendering.specs.Parts.{part_words}
 use Rattle.rerendering.proofs.measure_parts.Given as goal
 
 abbrev pub invariant-loop-i : goal.invariant-loop-i

@@ -2,7 +2,6 @@
 use mathlib.Core.Path.{◌≡◌, sym, ap, ◌∙◌}
 use mathlib.Core.List.{List}
 use Prim.Native.Nat.{ℕ}
-use borrow.Author.Rules.{rules}
 use lib.ListN.{length, length-map}
 use Rattle.parentheses.specs.Parentheses.{parts_of, total}
 use Rattle.rerendering.specs.Parts.{part_word}

@@ -1,5 +1,4 @@
 -- `replacing::nested::put_rest` meets its contract.
-use borrow.Author.Rules.{rules}
 use native.Mathlib.Omega.{arith}
 use mathlib.Core.Path.{refl, subst, ◌∙◌}
 use mathlib.Core.List.{List}
@@ -20,7 +19,7 @@ laid_is c =
     a.out.now a.at p.result.now c.put.result c.put.new.out c.put.ensures.value c.put.ensures.out_after)
 
 pub end_slot-requires : goal.end_slot-requires
-end_slot-requires c = let g = rw c.in-At.is at (laid_is (c)) in record {
+end_slot-requires c = let g = rw c.in-At.is at (laid_is (goal.at.end_slot-requires c).After-put) in record {
   k_bound = (
     omega (arith, c.requires),
     omega (arith, c.requires),
@@ -36,7 +35,7 @@ end_slot-requires c = let g = rw c.in-At.is at (laid_is (c)) in record {
 }
 
 pub returns-in-At : goal.returns-in-At
-returns-in-At c = record { lays = rw c.in-At.is at (laid_is (c)); frames_then = c.end_slot.ensures }
+returns-in-At c = record { lays = rw c.in-At.is at (laid_is (goal.at.returns-in-At c).After-put); frames_then = c.end_slot.ensures }
 
 pub returns-in-Full : goal.returns-in-Full
-returns-in-Full c = record { lays = rw c.in-Full.is at (laid_is (c)); frames_then = refl }
+returns-in-Full c = record { lays = rw c.in-Full.is at (laid_is (goal.at.returns-in-Full c).After-put); frames_then = refl }

@@ -1,5 +1,4 @@
 -- `replacing::pieces::put_hole` meets its contract.
-use borrow.Author.Rules.{rules}
 use native.Mathlib.Omega.{arith}
 use mathlib.Core.Path.{sym, ◌∙◌}
 use Prim.Native.Nat.{◌<◌}
@@ -33,7 +32,7 @@ returns-then-word-gt0 c = let a = c.args in let f = a.frames.now in let out = a.
 pub begin_slot-requires : goal.begin_slot-requires
 begin_slot-requires c = let l = c.put_prefix in
     let g = rw c.in-At.is at l.ensures in
-    (omega (arith, c.requires), omega (arith, c.requires), c.requires.k_bound.1, omega (arith, c.binding-from.type-inv), omega (arith, g.ends, g.size, c.requires))
+    (omega (arith, c.requires), omega (arith, c.requires), c.requires.k_bound.1, omega (arith, c.binding-from.type_inv), omega (arith, g.ends, g.size, c.requires))
 
 pub returns-else-word-gt0 : goal.returns-else-word-gt0
 returns-else-word-gt0 c = let a = c.args in let f = a.frames.now in let out = a.out.now in

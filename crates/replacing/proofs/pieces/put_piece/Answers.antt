@@ -1,5 +1,4 @@
 -- `replacing::pieces::put_piece` meets its contract.
-use borrow.Author.Rules.{rules}
 use native.Mathlib.Omega.{arith}
 use mathlib.Core.Path.{sym, ◌∙◌}
 use Rattle.rows.specs.Told.{told_text}

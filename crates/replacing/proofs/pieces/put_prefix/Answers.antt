@@ -1,5 +1,4 @@
 -- `replacing::pieces::put_prefix` meets its contract.
-use borrow.Author.Rules.{rules}
 use Rattle.rows.proofs.BetweenLaws.{grows_none}
 use Rattle.replacing.proofs.LayLaws.{lays_then, short_then}
 use Rattle.replacing.proofs.pieces.put_prefix.Goals as goal

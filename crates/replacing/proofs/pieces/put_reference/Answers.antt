@@ -1,5 +1,4 @@
 -- `replacing::pieces::put_reference` meets its contract.
-use borrow.Author.Rules.{rules}
 use borrow.Author.Tests.{eq-eqb, ne_eqb}
 use mathlib.Core.List.{[], ◌∷◌}
 use Rattle.rows.proofs.BetweenLaws.{grows_none}

@@ -2,10 +2,10 @@
 use native.Mathlib.Omega.{arith}
 use mathlib.Core.Path.{◌≡◌, refl, sym, subst, ◌∙◌}
 use mathlib.Core.List.{List}
-use Prim.Native.Nat.{ℕ, ◌+◌, ◌-◌, ◌≤◌}
+use Prim.Native.Nat.{ℕ, ◌+◌, ◌-◌}
 use native.Mathlib.Numerals.{add-one}
 use lib.ListN.{length, get_or, replicate, length-set, length-replicate, get_or-replicate}
-use lib.Seq.{paste, paste-zero, paste-suc, take-length}
+use lib.Seq.{paste-zero, paste-suc, take-length}
 use Rattle.words.specs.Buffer.{laid}
 use Rattle.rows.specs.Frames.{Grows}
 use Rattle.rows.proofs.BetweenLaws.{grows_laid}

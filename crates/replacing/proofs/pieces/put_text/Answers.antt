@@ -1,5 +1,4 @@
 -- `replacing::pieces::put_text` meets its contract.
-use borrow.Author.Rules.{rules}
 use mathlib.Core.Path.{refl}
 use Rattle.replacing.proofs.LayLaws.{lays_put}
 use Rattle.replacing.proofs.pieces.put_text.Goals as goal

@@ -1,5 +1,4 @@
 -- `replacing::pieces::turn_behind` meets its contract.
-use borrow.Author.Rules.{rules}
 use mathlib.Core.Path.{sym, ap}
 use Rattle.replacing.specs.Steps.{turn_behind}
 use Rattle.replacing.proofs.pieces.turn_behind.Goals as goal

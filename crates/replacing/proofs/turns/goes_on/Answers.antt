@@ -1,5 +1,4 @@
 -- `replacing::turns::goes_on` meets its contract.
-use borrow.Author.Rules.{rules}
 use Rattle.replacing.proofs.turns.goes_on.Goals as goal
 
 pub returns : goal.returns

@@ -1,14 +1,8 @@
 -- `replacing::turns::take_steps` meets its contract.
-use borrow.Author.Rules.{rules}
-use native.Mathlib.Omega.{arith}
-use mathlib.Core.Path.{◌≡◌, sym, ◌∙◌}
-use Prim.Native.Nat.{ℕ, ◌+◌, ◌-◌, ◌*◌}
+use Prim.Native.Nat.{◌+◌, ◌-◌, ◌*◌}
 use lib.ListN.{length}
-use Rattle.rows.specs.Rows.{World}
-use Rattle.rows.specs.Frames.{passed_of, filling_of, came, Keeps}
-use Rattle.replacing.specs.Steps.{AtStep, StepsLeft}
-use Rattle.replacing.specs.declared.pieces.Turn.TheVariants.{At}
-use Rattle.replacing.proofs.StepLaws.{goes_on_true, goes_on_false, all_passed, keeps_trans, ends_steps, Went, went_none, went_on, went_less}
+use Rattle.rows.specs.Frames.{came}
+use Rattle.replacing.proofs.StepLaws.{Went}
 use Rattle.replacing.proofs.turns.take_steps.Given as goal
 
 abbrev pub invariant-loop-frames : goal.invariant-loop-frames
