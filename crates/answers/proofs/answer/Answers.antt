@@ -1,7 +1,6 @@
 -- `answers::answer` meets its contract.
 use mathlib.Core.Path.{◌∙◌}
 use Rattle.answers.proofs.AnswerLaws.{ends_fitting, ends_too_long, ends_failed, ended_by}
-use borrow.Author.Rules.{rules}
 use Rattle.answers.proofs.answer.Goals as goal
 
 pub returns-then-noted-out : goal.returns-then-noted-out

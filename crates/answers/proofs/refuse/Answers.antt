@@ -1,5 +1,4 @@
 -- `answers::refuse` meets its contract.
-use borrow.Author.Rules.{rules}
 use Rattle.answers.proofs.refuse.Goals as goal
 
 pub returns : goal.returns

@@ -4,7 +4,6 @@ use Prim.Native.Nat.{◌+◌}
 use native.Mathlib.Omega.{arith}
 use Rattle.syntax.specs.Accessors.{rest}
 use Rattle.matcher.proofs.TokenLaws.{pass_more}
-use borrow.Author.Rules.{rules}
 use Rattle.calls.proofs.first_argument.Goals as goal
 
 pub returns : goal.returns

@@ -11,7 +11,6 @@ use Rattle.matcher.specs.declared.file_facts.Derefs.{Derefs}
 use Rattle.matcher.specs.FileFacts.{derefs}
 use Rattle.matcher.specs.Matcher.{matcher_of}
 use Rattle.calls.proofs.CallLaws.{fits_no_type, fits_no_argument, fits_type, found_in_lem, none_below}
-use borrow.Author.Rules.{rules}
 use Rattle.calls.proofs.first_fits.Goals as goal
 
 pub returns-then-y-lt3 : goal.returns-then-y-lt3

@@ -11,7 +11,6 @@ use Rattle.captures.proofs.AttemptLaws.{gives_done, gives_event}
 use Rattle.matcher.specs.Matcher.{matcher_of, is_placeholder, slot_of, slot_in}
 use Rattle.matcher.specs.FileFacts.{takes_self, self_kind_at}
 use Rattle.calls.proofs.CallLaws.{gives_where, gives_not}
-use borrow.Author.Rules.{rules}
 use Rattle.calls.proofs.prefixed.Goals as goal
 
 pub bind-requires : goal.bind-requires

@@ -4,7 +4,6 @@ use mathlib.Core.Bool.{false≢true}
 use Prim.Native.Nat.{ℕ}
 use Rattle.matcher.specs.declared.file_facts.Derefs.{Derefs}
 use Rattle.matcher.specs.FileFacts.{derefs}
-use borrow.Author.Rules.{rules}
 use Rattle.calls.proofs.receiver_derefs.Goals as goal
 
 pub returns-then-takes_self : goal.returns-then-takes_self

@@ -1,5 +1,4 @@
 -- `calls::same_function` meets its contract.
-use borrow.Author.Rules.{rules}
 use Rattle.calls.proofs.same_function.Goals as goal
 
 pub returns : goal.returns

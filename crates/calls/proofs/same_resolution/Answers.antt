@@ -1,5 +1,4 @@
 -- `calls::same_resolution` meets its contract.
-use borrow.Author.Rules.{rules}
 use Rattle.calls.proofs.same_resolution.Goals as goal
 
 pub returns : goal.returns

@@ -5,7 +5,6 @@ use Rattle.syntax.specs.Trees.{elems}
 use Rattle.syntax.specs.Accessors.{children}
 use Rattle.syntax.proofs.AccessorLaws.{number_is, some_is}
 use Rattle.calls.proofs.CallLaws.{found_in_lem}
-use borrow.Author.Rules.{rules}
 use Rattle.calls.proofs.takes_receiver.Goals as goal
 
 pub returns-then-takes_self : goal.returns-then-takes_self

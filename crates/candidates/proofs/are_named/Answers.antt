@@ -1,11 +1,10 @@
 -- `candidates::are_named` meets its contract: the candidates passed are named.
-use mathlib.Core.Path.{◌≡◌, refl, sym, ap, ◌∙◌}
+use mathlib.Core.Path.{sym, ap, ◌∙◌}
 use mathlib.Core.Bool.{not}
 use native.Mathlib.Omega.{arith}
 use borrow.Author.Rules.{rules}
-use lib.ListN.{length, length-drop}
+use lib.ListN.{length-drop}
 use Rattle.syntax.specs.Trees.{tree}
-use Rattle.candidates.specs.Candidates.{candidates_of, any_bad}
 use Rattle.candidates.proofs.CandidateLaws.{bad_more, bad_stop, bad_end}
 use Rattle.std.proofs.Common.{rules}
 use Rattle.candidates.proofs.are_named.Goals as goal

@@ -1,12 +1,9 @@
 -- `candidates::fill` meets its contract: the keys passed are laid, and those of the part that is left are to come.
-use mathlib.Core.Path.{◌≡◌, refl, sym, ◌∙◌}
+use mathlib.Core.Path.{◌≡◌}
 use mathlib.Core.List.{◌++◌}
-use Prim.Native.Nat.{◌+◌, ◌-◌, ◌<◌}
-use native.Mathlib.Omega.{arith}
-use borrow.Author.Rules.{rules}
-use lib.ListN.{length, take, length-set, length-drop}
+use Prim.Native.Nat.{◌+◌, ◌-◌}
+use lib.ListN.{length, take}
 use Rattle.candidates.specs.Candidates.{candidates_of, candidate_count, keys_of}
-use Rattle.candidates.proofs.Loops.{lay-more, lay_end}
 use Rattle.candidates.proofs.fill.Given as goal
 
 abbrev pub invariant-loop-i : goal.invariant-loop-i

@@ -1,7 +1,6 @@
 -- `candidates::is_named` meets its contract.
 use mathlib.Core.Path.{sym}
 use native.Mathlib.Omega.{arith}
-use borrow.Author.Rules.{rules}
 use lib.ListN.{get_or}
 use Rattle.candidates.proofs.CandidateLaws.{no_node}
 use Rattle.candidates.proofs.is_named.Goals as goal

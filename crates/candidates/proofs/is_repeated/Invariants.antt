@@ -1,10 +1,8 @@
 -- `candidates::is_repeated` meets its contract: no two neighbours among the keys passed are equal.
-use mathlib.Core.Path.{◌≡◌, refl, sym, ◌∙◌}
+use mathlib.Core.Path.{◌≡◌}
 use Prim.Native.Nat.{◌-◌, ◌<◌}
-use native.Mathlib.Omega.{arith}
 use lib.ListN.{length, drop}
 use Rattle.candidates.specs.Candidates.{has_equal_neighbours}
-use Rattle.candidates.proofs.Loops.{neighbours_equal, neighbours_differ, neighbours_end}
 use Rattle.candidates.proofs.is_repeated.Given as goal
 
 abbrev pub invariant-loop-i : goal.invariant-loop-i

@@ -1,6 +1,5 @@
 -- `candidates::order_candidates` meets its contract.
 use mathlib.Core.Path.{ap, ◌∙◌}
-use borrow.Author.Rules.{rules}
 use Rattle.sorting.specs.Sorted.{sort}
 use Rattle.candidates.proofs.order_candidates.Goals as goal
 

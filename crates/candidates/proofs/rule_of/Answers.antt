@@ -1,7 +1,6 @@
 -- `candidates::rule_of` meets its contract.
 use mathlib.Core.Path.{sym}
 use native.Mathlib.Omega.{arith}
-use borrow.Author.Rules.{rules}
 use lib.ListN.{get_or-eq_default}
 use Rattle.candidates.specs.Candidates.{missing_rule}
 use Rattle.candidates.proofs.CandidateLaws.{rule_there}

@@ -1,6 +1,5 @@
 -- `captures::bind` meets its contract.
 use Rattle.syntax.proofs.AccessorLaws.{range_is}
-use borrow.Author.Rules.{rules}
 use Rattle.captures.proofs.bind.Goals as goal
 
 pub returns : goal.returns

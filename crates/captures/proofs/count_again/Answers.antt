@@ -2,7 +2,6 @@
 use mathlib.Core.Path.{◌∙◌}
 use native.Mathlib.Omega.{arith}
 use lib.Dec.{leb, ltb}
-use borrow.Author.Rules.{rules}
 use borrow.Author.Tests.{leb-true}
 use Rattle.words.proofs.TestLaws.{and_both}
 use Rattle.captures.proofs.AttemptLaws.{counted_once_more, counted_full}

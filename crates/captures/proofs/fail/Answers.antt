@@ -1,5 +1,4 @@
 -- `captures::fail` meets its contract.
-use borrow.Author.Rules.{rules}
 use Rattle.captures.proofs.fail.Goals as goal
 
 pub returns : goal.returns

@@ -1,12 +1,8 @@
 -- `captures::lay_again` meets its contract.
-use mathlib.Core.Path.{◌≡◌, refl, sym, ◌∙◌}
-use mathlib.Core.List.{List, ◌++◌}
-use Prim.Native.Nat.{ℕ, ◌+◌, ◌-◌, ◌≤◌, ◌<◌}
-use native.Mathlib.Omega.{arith}
-use native.Mathlib.Numerals.{add-one}
-use lib.ListN.{length, take, drop, get_or, length-set, length-drop, get_or-append}
-use lib.Seq.{paste, paste-zero, paste-suc, get_or-take, get_or-drop, length_paste_head, length-take-le}
-use Rattle.words.specs.Buffer.{laid}
+use mathlib.Core.Path.{◌≡◌}
+use Prim.Native.Nat.{◌-◌, ◌≤◌}
+use lib.ListN.{length, drop}
+use lib.Seq.{paste}
 use Rattle.captures.proofs.lay_again.Given as goal
 
 abbrev pub invariant-loop-i : goal.invariant-loop-i

@@ -4,7 +4,6 @@ use mathlib.Core.List.{List}
 use Prim.Native.Nat.{ℕ, ◌+◌}
 use lib.Dec.{leb}
 use lib.ListN.{length}
-use borrow.Author.Rules.{rules}
 use Rattle.words.specs.Buffer.{laid_if_room}
 use Rattle.syntax.specs.Trees.{elems}
 use Rattle.syntax.specs.Accessors.{text_of}

@@ -1,7 +1,6 @@
 -- `captures::place_behind` meets its contract.
 use mathlib.Core.Path.{sym, ◌∙◌}
 use native.Mathlib.Omega.{arith}
-use borrow.Author.Rules.{rules}
 use Rattle.captures.proofs.AttemptLaws.{fits_one, pass_one}
 use Rattle.captures.proofs.place_behind.Goals as goal
 

@@ -1,5 +1,4 @@
 -- `captures::stop` meets its contract.
-use borrow.Author.Rules.{rules}
 use Rattle.captures.proofs.stop.Goals as goal
 
 pub returns : goal.returns

@@ -1,6 +1,5 @@
 -- `errors::number_of` meets its contract: in each arm the refusal is that arm's case, so its number is the definition's.
 use mathlib.Core.Path.{sym, ap}
-use borrow.Author.Rules.{rules}
 use Rattle.errors.specs.Refusals.{number_of}
 use Rattle.errors.proofs.number_of.Goals as goal
 

@@ -1,5 +1,4 @@
 -- `fact_checks::has_values` meets its contract.
-use borrow.Author.Rules.{rules}
 use borrow.Author.Tests.{ne_eqb}
 use Rattle.fact_checks.proofs.has_values.Goals as goal
 

@@ -1,5 +1,4 @@
 -- `fact_checks::is_allowed` meets its contract.
-use borrow.Author.Rules.{rules}
 use Rattle.fact_checks.proofs.is_allowed.Goals as goal
 
 pub returns-in-File : goal.returns-in-File

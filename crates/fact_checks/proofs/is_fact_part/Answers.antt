@@ -1,5 +1,4 @@
 -- `fact_checks::is_fact_part` meets its contract.
-use borrow.Author.Rules.{rules}
 use Rattle.fact_checks.proofs.is_fact_part.Goals as goal
 
 pub returns : goal.returns

@@ -1,5 +1,4 @@
 -- `fact_checks::names_token` meets its contract.
-use borrow.Author.Rules.{rules}
 use borrow.Author.Tests.{eq-eqb, ne_eqb}
 use Rattle.fact_checks.proofs.names_token.Goals as goal
 

@@ -1,9 +1,6 @@
 -- `nester::holding` meets its contract. The loop's invariant: none of the captured ranges passed holds the range.
-use mathlib.Core.Path.{◌≡◌}
 use Prim.Native.Nat.{◌-◌, ◌≤◌}
-use native.Mathlib.Omega.{arith}
-use borrow.Author.Rules.{rules}
-use Rattle.nester.proofs.RowLaws.{Unheld, unheld_start, unheld_next, held_here, held_nowhere}
+use Rattle.nester.proofs.RowLaws.{Unheld}
 use Rattle.nester.proofs.holding.Given as goal
 
 abbrev pub invariant-loop-k : goal.invariant-loop-k

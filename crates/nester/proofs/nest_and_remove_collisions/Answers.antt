@@ -1,8 +1,7 @@
 -- `nester::nest_and_remove_collisions` meets its contract. The loop's invariant: the rows passed are nested.
 use mathlib.Core.Path.{◌≡◌, sym, subst, ◌∙◌}
-use mathlib.Core.Logic.{⊎_elim}
 use mathlib.Core.List.{List}
-use Prim.Native.Nat.{ℕ, ◌+◌, ◌-◌, ◌≤◌}
+use Prim.Native.Nat.{ℕ, ◌+◌, ◌-◌}
 use native.Mathlib.Omega.{arith}
 use borrow.Author.Rules.{rules}
 use lib.ListN.{length-set}
@@ -74,19 +73,19 @@ loop-i-preserved c = let l = c.loop-i in
     let t = tree c.args.words.now in
     let b = c.args.rows.now in
     elim c.if-field-eq1.branch [
-      then-field-eq1 w ↦ (
-        let m = sym c.field.ensures ∙ w.if-field-eq1.true in
-        let o = w.settle-s.ensures in
-        let r = w.settle-s.result in
-        let stay = nodes_stay t b c.args.count c.requires.candidates c.requires.by_index l.i lt l.rows l.invariant.1 r o m in
-        let states = states_stay t b c.args.count c.requires.candidates c.requires.by_index l.i lt l.rows l.invariant.1 r o m in
-        let nested = nested-next t b c.args.count c.requires.candidates c.requires.by_index l.i lt l.rows l.invariant.1 r o m in
-        let last = last-next t l.rows _ l.i stay states r o l.last c.if-field-eq1.last l.invariant.2 (w.last-is ∙ w.last_outer-last.ensures) in
-        (omega arith, subst (λ (r : List ℕ). Nested t (l.i + 1) b r) (sym w.rows-is) nested, subst (λ (r : List ℕ). Last t r c.if-field-eq1.last (l.i + 1)) (sym w.rows-is) last))
+      | then-field-eq1 w ↦ (
+          let m = sym c.field.ensures ∙ w.if-field-eq1.true in
+          let o = w.settle-s.ensures in
+          let r = w.settle-s.result in
+          let stay = nodes_stay t b c.args.count c.requires.candidates c.requires.by_index l.i lt l.rows l.invariant.1 r o m in
+          let states = states_stay t b c.args.count c.requires.candidates c.requires.by_index l.i lt l.rows l.invariant.1 r o m in
+          let nested = nested-next t b c.args.count c.requires.candidates c.requires.by_index l.i lt l.rows l.invariant.1 r o m in
+          let last = last-next t l.rows _ l.i stay states r o l.last c.if-field-eq1.last l.invariant.2 (w.last-is ∙ w.last_outer-last.ensures) in
+          (omega arith, subst (λ (r : List ℕ). Nested t (l.i + 1) b r) (sym w.rows-is) nested, subst (λ (r : List ℕ). Last t r c.if-field-eq1.last (l.i + 1)) (sym w.rows-is) last))
       | else-field-eq1 w ↦ (
-        let nested = nested_by t b c.args.count c.requires.candidates c.requires.by_index l.i lt l.rows l.invariant.1 (λ e. w.if-field-eq1.false (c.field.ensures ∙ e)) in
-        let last = last_by t l.rows l.last l.i l.invariant.2 in
-        (omega arith, subst (λ (r : List ℕ). Nested t (l.i + 1) b r) (sym w.rows-is) nested, rw (w.rows-is, w.last-is) last))
+          let nested = nested_by t b c.args.count c.requires.candidates c.requires.by_index l.i lt l.rows l.invariant.1 (λ e. w.if-field-eq1.false (c.field.ensures ∙ e)) in
+          let last = last_by t l.rows l.last l.i l.invariant.2 in
+          (omega arith, subst (λ (r : List ℕ). Nested t (l.i + 1) b r) (sym w.rows-is) nested, rw (w.rows-is, w.last-is) last))
     ]
 
 pub shape_of-rows : goal.shape_of-rows

@@ -1,6 +1,5 @@
 -- `nester::settle` meets its contract. The loop's invariant: over the rows passed, the match has come to the place that state and slot say.
 use mathlib.Core.Path.{◌≡◌, sym, ap, subst, ◌∙◌}
-use mathlib.Core.Logic.{⊎_elim}
 use mathlib.Core.Bool.{true}
 use Prim.Native.Nat.{ℕ, ◌-◌, ◌<◌}
 use native.Mathlib.Omega.{arith}
@@ -64,12 +63,12 @@ loop-i-preserved c = let w = c.args.words.now in
     let rg = range-given w n (field rows row 0) (elems n c.element.result.now) c.range_of-range.result (c.range_of-range.ensures n) c.element.ensures.result_value c.field-node.ensures in
     let m : c.meets.result ≡ met (tree w) rows row l.state l.slot l.i = rw c.field-node.ensures at c.meets.ensures in
     elim c.if-meets.branch [
-      then-meets+else-k-eq8 w ↦ (
-        let q : taken (tree c.args.words.now) rows row l.i ≡ slot_of w.holding-k.result = ap (λ (r : Range). holder 0 (bindings_in rows l.i) r.start r.end) (sym rg) ∙ w.holding-k.ensures.end_value in
-        let o = coming_in (tree c.args.words.now) rows row c.requires.candidates c.requires.held l.i l.state l.slot w.holding-k.result lt l.invariant (sym m ∙ w.if-meets.true) (omega (arith, w.holding-k.ensures.upper_bound, w.if-k-eq8.false)) q in
-        rw (w.state-is, w.slot-is) o)
+      | then-meets+else-k-eq8 w ↦ (
+          let q : taken (tree c.args.words.now) rows row l.i ≡ slot_of w.holding-k.result = ap (λ (r : Range). holder 0 (bindings_in rows l.i) r.start r.end) (sym rg) ∙ w.holding-k.ensures.end_value in
+          let o = coming_in (tree c.args.words.now) rows row c.requires.candidates c.requires.held l.i l.state l.slot w.holding-k.result lt l.invariant (sym m ∙ w.if-meets.true) (omega (arith, w.holding-k.ensures.upper_bound, w.if-k-eq8.false)) q in
+          rw (w.state-is, w.slot-is) o)
       | else-meets w ↦ (
-        let o = coming_by (tree c.args.words.now) rows row c.requires.candidates c.requires.held l.i l.state l.slot lt l.invariant (sym m ∙ w.if-meets.false) in rw (w.state-is, w.slot-is) o)
+          let o = coming_by (tree c.args.words.now) rows row c.requires.candidates c.requires.held l.i l.state l.slot lt l.invariant (sym m ∙ w.if-meets.false) in rw (w.state-is, w.slot-is) o)
     ]
 
 pub returns : goal.returns

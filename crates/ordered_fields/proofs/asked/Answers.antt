@@ -5,7 +5,6 @@ use Prim.Native.Nat.{◌+◌, ◌*◌}
 use native.Mathlib.Omega.{arith}
 use lib.ListN.{drop}
 use Rattle.syntax.specs.Trees.{elems}
-use borrow.Author.Rules.{rules}
 use Rattle.ordered_fields.proofs.OrderLaws.{asks_by}
 use Rattle.ordered_fields.proofs.asked.Goals as goal
 

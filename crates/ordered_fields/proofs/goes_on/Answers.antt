@@ -1,6 +1,5 @@
 -- `ordered_fields::goes_on` meets its contract.
 use Rattle.syntax.proofs.TreeLaws.{elems_end}
-use borrow.Author.Rules.{rules}
 use Rattle.ordered_fields.proofs.goes_on.Goals as goal
 
 pub returns-then-q-lt3 : goal.returns-then-q-lt3

@@ -1,6 +1,5 @@
 -- `ordered_fields::is_same` meets its contract.
 use Prim.Native.Nat.{◌+◌}
-use borrow.Author.Rules.{rules}
 use Rattle.ordered_fields.proofs.OrderLaws.{next_is, same_is}
 use Rattle.ordered_fields.proofs.is_same.Goals as goal
 

@@ -1,6 +1,5 @@
 -- `ordered_fields::past` meets its contract.
 use native.Mathlib.Omega.{arith}
-use borrow.Author.Rules.{rules}
 use Rattle.ordered_fields.proofs.OrderLaws.{past_next}
 use Rattle.ordered_fields.proofs.past.Goals as goal
 

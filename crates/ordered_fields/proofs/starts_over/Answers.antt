@@ -1,13 +1,8 @@
 -- `ordered_fields::starts_over` meets its contract: what is left has the answer of the whole.
-use mathlib.Core.Path.{◌≡◌, refl, sym, ◌∙◌}
-use mathlib.Core.List.{List}
-use Prim.Native.Nat.{ℕ, ◌+◌, ◌*◌}
+use mathlib.Core.Path.{refl, sym, ◌∙◌}
 use native.Mathlib.Omega.{arith}
-use lib.ListN.{length}
 use Rattle.syntax.specs.Trees.{elems}
-use Rattle.matcher.specs.declared.marks.Context.{Context}
 use Rattle.matcher.specs.Matcher.{matcher_of}
-use Rattle.ordered_fields.specs.Order.{starts_over}
 use Rattle.ordered_fields.proofs.OrderLaws.{over-here, over-next, over_end}
 use Rattle.ordered_fields.proofs.starts_over.Goals as goal
 

@@ -1,15 +1,14 @@
 -- `parentheses::mark_parts` meets its contract: the parts from i on are marked, and an empty placeholder stands at their first byte or not.
 use mathlib.Core.Path.{◌≡◌, refl, ◌∙◌}
-use mathlib.Core.List.{[], map}
-use Prim.Native.Nat.{suc, ◌+◌, ◌-◌, ◌<◌, ◌≤◌}
+use mathlib.Core.List.{[]}
+use Prim.Native.Nat.{suc, ◌+◌, ◌-◌, ◌<◌}
 use native.Mathlib.Omega.{arith}
-use borrow.Author.Rules.{rules}
-use lib.ListN.{length, get_or, take, drop, length-set, length-drop, drop_of_length-le}
+use lib.ListN.{length, get_or, drop, length-set, length-drop, drop_of_length-le}
 use lib.Seq.{take-length}
 use Rattle.parses.specs.Ranges.{ranges_of}
-use Rattle.parentheses.specs.Parentheses.{part_at, parts_of, total, has_range, requires, bit, added}
+use Rattle.parentheses.specs.Parentheses.{part_at, parts_of, has_range, requires, added}
 use Rattle.parentheses.proofs.SumLaws.{total_back, total-none}
-use Rattle.parentheses.proofs.MarkLaws.{is_followed, requires_few, followed_back, marks_back, added_more}
+use Rattle.parentheses.proofs.MarkLaws.{requires_few, followed_back, marks_back, added_more}
 use Rattle.parentheses.proofs.mark_parts.Goals as goal
 
 pub loop-i-init : goal.loop-i-init

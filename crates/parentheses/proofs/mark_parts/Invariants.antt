@@ -1,15 +1,11 @@
 -- `parentheses::mark_parts` meets its contract: the parts from i on are marked, and an empty placeholder stands at their first byte or not.
-use mathlib.Core.Path.{◌≡◌, refl, ◌∙◌}
-use mathlib.Core.List.{[], map}
-use Prim.Native.Nat.{suc, ◌+◌, ◌-◌, ◌<◌, ◌≤◌}
-use native.Mathlib.Omega.{arith}
-use borrow.Author.Rules.{rules}
-use lib.ListN.{length, get_or, take, drop, length-set, length-drop, drop_of_length-le}
-use lib.Seq.{take-length}
+use mathlib.Core.Path.{◌≡◌}
+use mathlib.Core.List.{map}
+use Prim.Native.Nat.{◌-◌, ◌≤◌}
+use lib.ListN.{length, take, drop}
 use Rattle.parses.specs.Ranges.{ranges_of}
-use Rattle.parentheses.specs.Parentheses.{part_at, parts_of, total, has_range, requires, bit, added}
-use Rattle.parentheses.proofs.SumLaws.{total_back, total-none}
-use Rattle.parentheses.proofs.MarkLaws.{is_followed, requires_few, followed_back, marks_back, added_more}
+use Rattle.parentheses.specs.Parentheses.{parts_of, total, requires, bit, added}
+use Rattle.parentheses.proofs.MarkLaws.{is_followed}
 use Rattle.parentheses.proofs.mark_parts.Given as goal
 
 abbrev pub invariant-loop-i : goal.invariant-loop-i

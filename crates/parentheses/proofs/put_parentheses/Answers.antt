@@ -1,15 +1,13 @@
 -- `parentheses::put_parentheses` meets its contract: the parts from i on stand where they belong.
 use mathlib.Core.Path.{◌≡◌, refl, ◌∙◌}
-use Prim.Native.Nat.{◌+◌, ◌-◌, ◌≤◌}
+use Prim.Native.Nat.{◌+◌, ◌-◌}
 use native.Mathlib.Nat.{add-zero}
 use native.Mathlib.Omega.{arith}
-use borrow.Author.Rules.{rules}
-use lib.ListN.{length, get_or, take, drop}
+use lib.ListN.{length, get_or}
 use lib.Seq.{take-length}
-use Rattle.words.specs.Buffer.{laid}
-use Rattle.parentheses.specs.Parentheses.{parts_of, total, is_marked, marks_of, extra, added}
+use Rattle.parentheses.specs.Parentheses.{is_marked, extra}
 use Rattle.parentheses.proofs.SumLaws.{total_back, total-none, added_back, added_none}
-use Rattle.parentheses.proofs.WrapLaws.{wrapped_from, put_start, put_step}
+use Rattle.parentheses.proofs.WrapLaws.{put_start, put_step}
 use Rattle.parentheses.proofs.put_parentheses.Goals as goal
 
 pub loop-i-init : goal.loop-i-init

@@ -1,15 +1,10 @@
 -- `parentheses::put_parentheses` meets its contract: the parts from i on stand where they belong.
-use mathlib.Core.Path.{◌≡◌, refl, ◌∙◌}
+use mathlib.Core.Path.{◌≡◌}
 use Prim.Native.Nat.{◌+◌, ◌-◌, ◌≤◌}
-use native.Mathlib.Nat.{add-zero}
-use native.Mathlib.Omega.{arith}
-use borrow.Author.Rules.{rules}
-use lib.ListN.{length, get_or, take, drop}
-use lib.Seq.{take-length}
+use lib.ListN.{length, take, drop}
 use Rattle.words.specs.Buffer.{laid}
-use Rattle.parentheses.specs.Parentheses.{parts_of, total, is_marked, marks_of, extra, added}
-use Rattle.parentheses.proofs.SumLaws.{total_back, total-none, added_back, added_none}
-use Rattle.parentheses.proofs.WrapLaws.{wrapped_from, put_start, put_step}
+use Rattle.parentheses.specs.Parentheses.{parts_of, total, marks_of, added}
+use Rattle.parentheses.proofs.WrapLaws.{wrapped_from}
 use Rattle.parentheses.proofs.put_parentheses.Given as goal
 
 abbrev pub invariant-loop-i : goal.invariant-loop-i

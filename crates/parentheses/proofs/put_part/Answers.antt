@@ -1,7 +1,6 @@
 -- `parentheses::put_part` meets its contract.
 use Prim.Native.Nat.{◌≤◌}
 use native.Mathlib.Omega.{arith}
-use borrow.Author.Rules.{rules}
 use lib.ListN.{length-set}
 use Rattle.parentheses.proofs.WrapLaws.{two-more, put-plain, put-marked}
 use Rattle.parentheses.proofs.put_part.Goals as goal

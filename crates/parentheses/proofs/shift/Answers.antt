@@ -1,9 +1,9 @@
 -- `parentheses::shift` meets its contract: the bytes from i on are laid.
 use mathlib.Core.Path.{◌≡◌, ap, ◌∙◌}
-use Prim.Native.Nat.{◌+◌, ◌-◌, ◌≤◌}
+use Prim.Native.Nat.{◌+◌, ◌-◌}
 use native.Mathlib.Nat.{add-zero}
 use native.Mathlib.Omega.{arith}
-use lib.ListN.{length, take, drop, length-set}
+use lib.ListN.{take, drop, length-set}
 use Rattle.words.specs.Buffer.{laid}
 use Rattle.parentheses.proofs.LaidLaws.{shift_start, shift_step}
 use Rattle.parentheses.proofs.shift.Goals as goal

@@ -1,11 +1,8 @@
 -- `parentheses::shift` meets its contract: the bytes from i on are laid.
-use mathlib.Core.Path.{◌≡◌, ap, ◌∙◌}
+use mathlib.Core.Path.{◌≡◌}
 use Prim.Native.Nat.{◌+◌, ◌-◌, ◌≤◌}
-use native.Mathlib.Nat.{add-zero}
-use native.Mathlib.Omega.{arith}
-use lib.ListN.{length, take, drop, length-set}
+use lib.ListN.{length, take, drop}
 use Rattle.words.specs.Buffer.{laid}
-use Rattle.parentheses.proofs.LaidLaws.{shift_start, shift_step}
 use Rattle.parentheses.proofs.shift.Given as goal
 
 abbrev pub invariant-loop-i : goal.invariant-loop-i

@@ -1,9 +1,7 @@
 -- `parse_checks::are_ranges` meets its contract.
-use mathlib.Core.Path.{◌≡◌, refl, sym, ◌∙◌}
+use mathlib.Core.Path.{sym, ◌∙◌}
 use native.Mathlib.Omega.{arith}
-use borrow.Author.Rules.{rules}
-use lib.ListN.{length, length-drop}
-use Rattle.parses.specs.Ranges.{are_ranges}
+use lib.ListN.{length-drop}
 use Rattle.parse_checks.proofs.RangeLaws.{are_step, are_last}
 use Rattle.parse_checks.proofs.are_ranges.Goals as goal
 

@@ -1,10 +1,7 @@
 -- `parse_checks::are_ranges` meets its contract.
-use mathlib.Core.Path.{◌≡◌, refl, sym, ◌∙◌}
-use native.Mathlib.Omega.{arith}
-use borrow.Author.Rules.{rules}
-use lib.ListN.{length, length-drop}
+use mathlib.Core.Path.{◌≡◌}
+use lib.ListN.{length}
 use Rattle.parses.specs.Ranges.{are_ranges}
-use Rattle.parse_checks.proofs.RangeLaws.{are_step, are_last}
 use Rattle.parse_checks.proofs.are_ranges.Given as goal
 
 abbrev pub invariant-loop-c : goal.invariant-loop-c

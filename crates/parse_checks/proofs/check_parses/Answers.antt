@@ -1,6 +1,5 @@
 -- `parse_checks::check_parses` meets its contract.
 use mathlib.Core.Path.{sym, ◌∙◌}
-use borrow.Author.Rules.{rules}
 use Rattle.errors.proofs.Laws.{refused_not}
 use Rattle.parse_checks.proofs.ParseLaws.{outcome-malformed, outcome_of}
 use Rattle.parse_checks.proofs.check_parses.Goals as goal

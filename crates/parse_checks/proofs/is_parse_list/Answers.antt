@@ -1,9 +1,7 @@
 -- `parse_checks::is_parse_list` meets its contract.
-use mathlib.Core.Path.{◌≡◌, refl, sym, ◌∙◌}
+use mathlib.Core.Path.{sym, ◌∙◌}
 use native.Mathlib.Omega.{arith}
-use borrow.Author.Rules.{rules}
-use lib.ListN.{length, length-drop}
-use Rattle.parses.specs.Parses.{is_parse_list}
+use lib.ListN.{length-drop}
 use Rattle.parses.proofs.ParseLaws.{list_step, list_none}
 use Rattle.parse_checks.proofs.is_parse_list.Goals as goal
 

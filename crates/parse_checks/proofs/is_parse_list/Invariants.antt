@@ -1,10 +1,7 @@
 -- `parse_checks::is_parse_list` meets its contract.
-use mathlib.Core.Path.{◌≡◌, refl, sym, ◌∙◌}
-use native.Mathlib.Omega.{arith}
-use borrow.Author.Rules.{rules}
-use lib.ListN.{length, length-drop}
+use mathlib.Core.Path.{◌≡◌}
+use lib.ListN.{length}
 use Rattle.parses.specs.Parses.{is_parse_list}
-use Rattle.parses.proofs.ParseLaws.{list_step, list_none}
 use Rattle.parse_checks.proofs.is_parse_list.Given as goal
 
 abbrev pub invariant-loop-c : goal.invariant-loop-c

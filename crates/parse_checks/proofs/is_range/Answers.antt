@@ -1,5 +1,4 @@
 -- `parse_checks::is_range` meets its contract.
-use borrow.Author.Rules.{rules}
 use Rattle.parse_checks.proofs.is_range.Goals as goal
 
 pub returns : goal.returns

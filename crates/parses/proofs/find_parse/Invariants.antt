@@ -1,12 +1,9 @@
 -- `parses::find_parse` meets its contract: what is looked for is found from the first parse of what is left on.
-use mathlib.Core.Path.{◌≡◌, refl, sym, ◌∙◌}
+use mathlib.Core.Path.{◌≡◌}
 use mathlib.Core.Bool.{true}
 use Prim.Native.Nat.{◌-◌, ◌≤◌}
-use native.Mathlib.Omega.{arith}
-use borrow.Author.Rules.{rules}
 use lib.ListN.{length, drop}
-use Rattle.parses.specs.Parses.{parse_words, parses_of, is_parse_list, lookup}
-use Rattle.parses.proofs.ParseLaws.{look_found, look_later, look_missing, list_later}
+use Rattle.parses.specs.Parses.{parses_of, is_parse_list, lookup}
 use Rattle.parses.proofs.find_parse.Given as goal
 
 abbrev pub invariant-loop-i : goal.invariant-loop-i

@@ -1,10 +1,9 @@
 -- `parses::is_node_range` meets its contract.
-use mathlib.Core.Path.{◌≡◌, refl, sym, ◌∙◌}
+use mathlib.Core.Path.{◌≡◌, sym, ◌∙◌}
 use mathlib.Core.Bool.{true, false}
 use native.Mathlib.Omega.{arith}
-use borrow.Author.Rules.{rules}
-use lib.ListN.{length, length-drop}
-use Rattle.parses.specs.Ranges.{range_at, ranges_of, is_from, is_among}
+use lib.ListN.{length-drop}
+use Rattle.parses.specs.Ranges.{range_at, is_from}
 use Rattle.parses.proofs.RangeLaws.{among-step, among_none}
 use Rattle.parses.proofs.is_node_range.Goals as goal
 

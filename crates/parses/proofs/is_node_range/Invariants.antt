@@ -1,11 +1,7 @@
 -- `parses::is_node_range` meets its contract.
-use mathlib.Core.Path.{◌≡◌, refl, sym, ◌∙◌}
-use mathlib.Core.Bool.{true, false}
-use native.Mathlib.Omega.{arith}
-use borrow.Author.Rules.{rules}
-use lib.ListN.{length, length-drop}
-use Rattle.parses.specs.Ranges.{range_at, ranges_of, is_from, is_among}
-use Rattle.parses.proofs.RangeLaws.{among-step, among_none}
+use mathlib.Core.Path.{◌≡◌}
+use lib.ListN.{length}
+use Rattle.parses.specs.Ranges.{ranges_of, is_among}
 use Rattle.parses.proofs.is_node_range.Given as goal
 
 abbrev pub invariant-loop-c : goal.invariant-loop-c

@@ -1,6 +1,5 @@
 -- `parses::is_parse_of` meets its contract.
 use mathlib.Core.Path.{◌≡◌, ◌∙◌}
-use borrow.Author.Rules.{rules}
 use borrow.Author.Tests.{eq-eqb, ne_eqb}
 use Rattle.words.specs.Fields.{parse_kind}
 use Rattle.parses.proofs.is_parse_of.Goals as goal

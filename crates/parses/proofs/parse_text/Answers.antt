@@ -1,6 +1,5 @@
 -- `parses::parse_text` meets its contract.
 use mathlib.Core.Path.{◌∙◌}
-use borrow.Author.Rules.{rules}
 use Rattle.parses.proofs.parse_text.Goals as goal
 
 pub returns : goal.returns

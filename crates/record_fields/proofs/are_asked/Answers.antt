@@ -1,10 +1,7 @@
 -- `record_fields::are_asked` meets its contract: what is left has the answer of the whole.
-use mathlib.Core.Path.{◌≡◌, refl, sym, ◌∙◌}
-use Prim.Native.Nat.{ℕ, ◌+◌, ◌*◌}
+use mathlib.Core.Path.{refl, sym, ◌∙◌}
 use native.Mathlib.Omega.{arith}
-use lib.ListN.{length}
 use Rattle.syntax.specs.Trees.{elems, tree}
-use Rattle.record_fields.specs.Fields.{are_asked}
 use Rattle.record_fields.proofs.FieldLaws.{asked-next, asked_not, asked_end}
 use Rattle.record_fields.proofs.are_asked.Goals as goal
 

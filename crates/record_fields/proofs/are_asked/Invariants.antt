@@ -1,11 +1,9 @@
 -- `record_fields::are_asked` meets its contract: what is left has the answer of the whole.
-use mathlib.Core.Path.{◌≡◌, refl, sym, ◌∙◌}
+use mathlib.Core.Path.{◌≡◌}
 use Prim.Native.Nat.{ℕ, ◌+◌, ◌*◌}
-use native.Mathlib.Omega.{arith}
 use lib.ListN.{length}
 use Rattle.syntax.specs.Trees.{elems, tree}
 use Rattle.record_fields.specs.Fields.{are_asked}
-use Rattle.record_fields.proofs.FieldLaws.{asked-next, asked_not, asked_end}
 use Rattle.record_fields.proofs.are_asked.Given as goal
 
 abbrev pub invariant-loop-c : goal.invariant-loop-c

@@ -11,7 +11,6 @@ use Rattle.syntax.proofs.AccessorLaws.{number_is}
 use Rattle.siblings.specs.Siblings.{kind_of}
 use Rattle.record_fields.specs.Fields.{pattern_name}
 use Rattle.record_fields.proofs.FieldLaws.{some_long, name_long}
-use borrow.Author.Rules.{rules}
 use Rattle.record_fields.proofs.field_for.Goals as goal
 
 pub returns-then-ident-lt3 : goal.returns-then-ident-lt3

@@ -7,7 +7,6 @@ use Rattle.syntax.specs.Accessors.{node_in}
 use Rattle.syntax.proofs.TreeLaws.{elems_end}
 use Rattle.syntax.proofs.AccessorLaws.{number_is}
 use Rattle.record_fields.proofs.FieldLaws.{field_long}
-use borrow.Author.Rules.{rules}
 use Rattle.record_fields.proofs.field_name.Goals as goal
 
 pub returns-then-is_node_in : goal.returns-then-is_node_in

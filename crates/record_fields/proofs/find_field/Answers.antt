@@ -1,14 +1,12 @@
 -- `record_fields::find_field` meets its contract: the last field of the whole is the last of what is left, or else the one found so far.
 use mathlib.Core.Path.{◌≡◌, refl, sym, ◌∙◌}
-use mathlib.Core.Logic.{⊎_elim}
-use Prim.Native.Nat.{◌+◌, ◌*◌, ◌/◌, ◌≤◌}
+use Prim.Native.Nat.{◌+◌, ◌*◌, ◌/◌}
 use native.Mathlib.Omega.{arith}
 use native.Mathlib.Nat.{add-zero}
 use lib.ListN.{length, drop}
 use Rattle.syntax.specs.Trees.{elems, tree}
-use Rattle.syntax.specs.Accessors.{rest, or_else}
+use Rattle.syntax.specs.Accessors.{rest}
 use Rattle.siblings.proofs.SiblingLaws.{behind-all}
-use Rattle.record_fields.specs.Fields.{last_field}
 use Rattle.record_fields.proofs.FieldLaws.{last-here, last-next, last_end, last_start, some_long, passed, passed_rest}
 use Rattle.record_fields.proofs.find_field.Goals as goal
 use Rattle.record_fields.proofs.find_field.Goals.{then-is_field, else-is_field}
@@ -49,19 +47,22 @@ loop-c-preserved c = let s = c.args in let w = s.part.now in let l = c.loop-c in
     let p : d ≡ drop ((l.at + n) * 3) w = passed w x d l.at n i.2 c.behind-d.ensures.result_value in
     let r : rest (elems (s.ce + l.at) x) ≡ elems (s.ce + (l.at + n)) d = passed_rest s.ce l.at n x d c.behind-d.ensures.result_value (c.width-n.ensures.by_index (s.ce + l.at)) in
     let found = elems (s.ce + l.last) (drop (l.last * 3) w) in
-    elim c.if-is_field.branch [ then-is_field v ↦ (
-      m,
-      omega (arith, v.last-is, i.0),
-      p,
-      i.3 ∙ last-here facts t file s.kind name (elems (s.ce + l.at) x) found c.is_field.result (some_long (s.ce + l.at) x c.loop-c-test.true) c.is_field.ensures v.if-is_field.true
-          ∙ rw (v.last-is, r, ← i.2),
-    ) | else-is_field v ↦ (
-      m,
-      omega (arith, v.last-is, i.1),
-      p,
-      i.3 ∙ last-next facts t file s.kind name (elems (s.ce + l.at) x) found c.is_field.result c.is_field.ensures v.if-is_field.false
-          ∙ rw (v.last-is, r),
-    ) ]
+    elim c.if-is_field.branch [
+      | then-is_field v ↦ (
+        m,
+        omega (arith, v.last-is, i.0),
+        p,
+        i.3 ∙ last-here facts t file s.kind name (elems (s.ce + l.at) x) found c.is_field.result (some_long (s.ce + l.at) x c.loop-c-test.true) c.is_field.ensures v.if-is_field.true
+            ∙ rw (v.last-is, r, ← i.2),
+      )
+      | else-is_field v ↦ (
+        m,
+        omega (arith, v.last-is, i.1),
+        p,
+        i.3 ∙ last-next facts t file s.kind name (elems (s.ce + l.at) x) found c.is_field.result c.is_field.ensures v.if-is_field.false
+            ∙ rw (v.last-is, r),
+      )
+    ]
 
 pub returns : goal.returns
 returns c = let s = c.args in let w = s.part.now in let l = c.loop-c in record {

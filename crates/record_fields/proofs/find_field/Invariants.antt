@@ -1,15 +1,10 @@
 -- `record_fields::find_field` meets its contract: the last field of the whole is the last of what is left, or else the one found so far.
-use mathlib.Core.Path.{◌≡◌, refl, sym, ◌∙◌}
-use mathlib.Core.Logic.{⊎_elim}
-use Prim.Native.Nat.{◌+◌, ◌*◌, ◌/◌, ◌≤◌}
-use native.Mathlib.Omega.{arith}
-use native.Mathlib.Nat.{add-zero}
+use mathlib.Core.Path.{◌≡◌}
+use Prim.Native.Nat.{◌+◌, ◌*◌, ◌≤◌}
 use lib.ListN.{length, drop}
 use Rattle.syntax.specs.Trees.{elems, tree}
-use Rattle.syntax.specs.Accessors.{rest, or_else}
-use Rattle.siblings.proofs.SiblingLaws.{behind-all}
+use Rattle.syntax.specs.Accessors.{or_else}
 use Rattle.record_fields.specs.Fields.{last_field}
-use Rattle.record_fields.proofs.FieldLaws.{last-here, last-next, last_end, last_start, some_long, passed, passed_rest}
 use Rattle.record_fields.proofs.find_field.Given as goal
 
 abbrev pub invariant-loop-c : goal.invariant-loop-c

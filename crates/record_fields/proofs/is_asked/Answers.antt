@@ -1,7 +1,6 @@
 -- `record_fields::is_asked` meets its contract.
 use Rattle.syntax.proofs.TreeLaws.{elems_end}
 use Rattle.record_fields.proofs.FieldLaws.{some_long}
-use borrow.Author.Rules.{rules}
 use Rattle.record_fields.proofs.is_asked.Goals as goal
 
 pub returns-then-token-lt3 : goal.returns-then-token-lt3

@@ -3,7 +3,6 @@ use mathlib.Core.Path.{◌∙◌}
 use Rattle.syntax.specs.Trees.{elems}
 use Rattle.syntax.proofs.TreeLaws.{elems_end}
 use Rattle.record_fields.proofs.FieldLaws.{some_long, same_right}
-use borrow.Author.Rules.{rules}
 use Rattle.record_fields.proofs.is_field.Goals as goal
 
 pub returns-then-token-lt3 : goal.returns-then-token-lt3

@@ -1,15 +1,10 @@
 -- `record_fields::is_named` meets its contract: any answer right for what is left is right for the whole.
-use mathlib.Core.Path.{◌≡◌, sym, ap, ◌∙◌}
-use mathlib.Core.Bool.{Bool, true, false}
-use Prim.Native.Nat.{ℕ, ◌+◌}
-use native.Mathlib.Omega.{arith}
+use mathlib.Core.Path.{◌≡◌}
+use mathlib.Core.Bool.{Bool}
+use Prim.Native.Nat.{ℕ}
 use lib.ListN.{length}
-use Rattle.syntax.specs.Parts.{span}
 use Rattle.syntax.specs.Trees.{elems}
-use Rattle.syntax.proofs.PartLaws.{rest_shorter}
-use Rattle.syntax.proofs.AccessorLaws.{rest_are}
 use Rattle.record_fields.specs.Fields.{is_named}
-use Rattle.record_fields.proofs.FieldLaws.{named_here, named_next, named_end}
 use Rattle.record_fields.proofs.is_named.Given as goal
 
 abbrev pub invariant-loop-q : goal.invariant-loop-q

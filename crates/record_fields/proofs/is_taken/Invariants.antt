@@ -1,15 +1,9 @@
 -- `record_fields::is_taken` meets its contract: what is left has the answer of the whole.
-use mathlib.Core.Path.{◌≡◌, sym, ap, ◌∙◌}
+use mathlib.Core.Path.{◌≡◌}
 use Prim.Native.Nat.{ℕ, ◌+◌, ◌*◌}
-use native.Mathlib.Omega.{arith}
-use native.Mathlib.Nat.{add-zero}
-use borrow.Author.Tests.{ltb-true, leb-true}
-use lib.Dec.{leb, ltb}
 use lib.ListN.{length}
-use Rattle.words.proofs.TestLaws.{and_both}
 use Rattle.syntax.specs.Trees.{elems}
 use Rattle.record_fields.specs.Fields.{is_taken}
-use Rattle.record_fields.proofs.FieldLaws.{taken_here, taken_next, taken-left, passed_rest}
 use Rattle.record_fields.proofs.is_taken.Given as goal
 
 abbrev pub invariant-loop-at : goal.invariant-loop-at

@@ -8,7 +8,6 @@ use Rattle.syntax.proofs.TreeLaws.{elems_end}
 use Rattle.syntax.proofs.AccessorLaws.{children_are}
 use Rattle.siblings.specs.Siblings.{is_a_node}
 use Rattle.siblings.proofs.SiblingLaws.{long_some, some_node}
-use borrow.Author.Rules.{rules}
 use Rattle.record_fields.proofs.pattern_name.Goals as goal
 
 pub returns-then-is_node_in : goal.returns-then-is_node_in

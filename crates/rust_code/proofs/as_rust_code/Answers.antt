@@ -7,10 +7,9 @@ use Rattle.parsing.specs.Reading.{vars, reading}
 use Rattle.words.specs.Buffer.{used_of, filled}
 use Rattle.rust_code.specs.Segments.{segments}
 use lib.ListN.{length, take}
-use Prim.Native.Nat.{◌+◌, ◌-◌, ◌<◌, ◌≤◌}
-use mathlib.Core.List.{[], ◌++◌}
+use Prim.Native.Nat.{◌-◌}
+use mathlib.Core.List.{[]}
 use mathlib.Core.Path.{◌≡◌, sym, ap, ◌∙◌}
-use borrow.Author.Rules.{rules}
 use Rattle.rust_code.proofs.as_rust_code.Goals as goal
 
 pub returns-in-Accepted : goal.returns-in-Accepted

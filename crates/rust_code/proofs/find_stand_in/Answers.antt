@@ -3,10 +3,8 @@ use Rattle.rust_code.proofs.StandInLaws.{by_name_lem, by_none, behind-prefix}
 use Rattle.parsing.proofs.PatternLaws.{places_of, count_of}
 use Rattle.words.specs.Texts.{has_prefix, stand_in_prefix}
 use mathlib.Core.Bool.{true, false}
-use Prim.Native.Nat.{◌+◌, ◌-◌, ◌<◌, ◌≤◌}
-use mathlib.Core.List.{◌++◌}
+use Prim.Native.Nat.{◌-◌}
 use mathlib.Core.Path.{◌≡◌, sym, ◌∙◌}
-use borrow.Author.Rules.{rules}
 use Rattle.rust_code.proofs.find_stand_in.Goals as goal
 
 pub returns-then-has_stand_in_prefix : goal.returns-then-has_stand_in_prefix

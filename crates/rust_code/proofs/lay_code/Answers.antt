@@ -1,5 +1,5 @@
 -- `rust_code::lay_code` meets its contract.
-use Rattle.rust_code.proofs.Laws.{lays_put, SoFar, so_far_none, so_far_more, so_far_full, so_far_end}
+use Rattle.rust_code.proofs.Laws.{lays_put, so_far_none, so_far_more, so_far_full, so_far_end}
 use Rattle.rust_code.specs.Segments.{Lays}
 use Rattle.parsing.specs.Answers.{no_placeholder}
 use Rattle.words.specs.Texts.{part}
@@ -7,8 +7,7 @@ use lib.Seq.{length-take-le, get_or-take}
 use lib.ListN.{length, take, get_or}
 use borrow.Author.Rules.{rules}
 use native.Mathlib.Omega.{arith}
-use Prim.Native.Nat.{◌+◌, ◌-◌, ◌<◌, ◌≤◌}
-use mathlib.Core.List.{◌++◌}
+use Prim.Native.Nat.{◌-◌}
 use mathlib.Core.Path.{◌≡◌, ◌∙◌}
 use Rattle.std.proofs.Common.{rules}
 use Rattle.rust_code.proofs.lay_code.Goals as goal

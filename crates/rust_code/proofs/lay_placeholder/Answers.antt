@@ -5,10 +5,8 @@ use Rattle.words.specs.declared.buffer.Placed.TheVariants.{At, Full}
 use Rattle.words.specs.Texts.{part, stand_in_prefix}
 use lib.ListN.{length-append}
 use native.Mathlib.Omega.{arith}
-use Prim.Native.Nat.{◌+◌, ◌-◌, ◌<◌, ◌≤◌}
+use Prim.Native.Nat.{◌+◌, ◌-◌}
 use mathlib.Core.List.{◌++◌}
-use mathlib.Core.Path.{◌≡◌, ◌∙◌}
-use borrow.Author.Rules.{rules}
 use Rattle.rust_code.proofs.lay_placeholder.Goals as goal
 
 pub returns-in_default : goal.returns-in_default

@@ -8,10 +8,9 @@ use Rattle.words.specs.declared.buffer.Placed.TheVariants.{At, Full}
 use lib.Seq.{length-take-le}
 use lib.ListN.{length, take}
 use native.Mathlib.Omega.{arith}
-use Prim.Native.Nat.{◌+◌, ◌-◌, ◌<◌, ◌≤◌}
-use mathlib.Core.List.{[], ◌++◌}
+use Prim.Native.Nat.{◌-◌, ◌≤◌}
+use mathlib.Core.List.{[]}
 use mathlib.Core.Path.{◌≡◌, refl, sym, ap, ◌∙◌}
-use borrow.Author.Rules.{rules}
 use Rattle.rust_code.proofs.write_code.Goals as goal
 
 pub slice_bounds-lay_code-end : goal.slice_bounds-lay_code-end

@@ -4,7 +4,6 @@ use Prim.Native.Nat.{◌+◌, ◌/◌}
 use lib.ListN.{length}
 use native.Mathlib.Omega.{arith}
 use Rattle.siblings.proofs.SiblingLaws.{behind-all}
-use borrow.Author.Rules.{rules}
 use Rattle.siblings.proofs.at_most.Goals as goal
 
 pub returns : goal.returns

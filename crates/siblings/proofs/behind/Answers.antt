@@ -3,7 +3,6 @@ use mathlib.Core.Path.{ap}
 use Prim.Native.Nat.{◌*◌}
 use lib.ListN.{length, length-drop}
 use native.Mathlib.Omega.{arith}
-use borrow.Author.Rules.{rules}
 use Rattle.siblings.proofs.behind.Goals as goal
 
 pub returns : goal.returns

@@ -4,7 +4,6 @@ use lib.ListN.{length}
 use native.Mathlib.Omega.{arith}
 use Rattle.syntax.proofs.AccessorLaws.{children_are}
 use Rattle.siblings.proofs.SiblingLaws.{children-within}
-use borrow.Author.Rules.{rules}
 use Rattle.siblings.proofs.children.Goals as goal
 
 pub returns : goal.returns

@@ -1,6 +1,5 @@
 -- `siblings::find` meets its contract.
 use mathlib.Core.Path.{◌∙◌}
-use borrow.Author.Rules.{rules}
 use Rattle.siblings.proofs.find.Goals as goal
 
 pub returns : goal.returns

@@ -5,7 +5,6 @@ use Prim.Native.Nat.{◌+◌}
 use Rattle.syntax.specs.Accessors.{rest}
 use Rattle.syntax.proofs.TreeLaws.{elems_end}
 use Rattle.siblings.proofs.SiblingLaws.{behind-all}
-use borrow.Author.Rules.{rules}
 use Rattle.siblings.proofs.first_width.Goals as goal
 
 pub returns-then-c-lt3 : goal.returns-then-c-lt3

@@ -2,7 +2,6 @@
 use mathlib.Core.Path.{sym, ◌∙◌}
 use Rattle.syntax.proofs.TreeLaws.{elems_end}
 use Rattle.siblings.proofs.SiblingLaws.{kind_is}
-use borrow.Author.Rules.{rules}
 use Rattle.siblings.proofs.kind_of.Goals as goal
 
 pub returns-then-c-lt3 : goal.returns-then-c-lt3

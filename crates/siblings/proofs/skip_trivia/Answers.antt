@@ -1,5 +1,4 @@
 -- `siblings::skip_trivia` meets its contract.
-use borrow.Author.Rules.{rules}
 use Rattle.siblings.proofs.skip_trivia.Goals as goal
 
 pub returns : goal.returns

@@ -6,7 +6,6 @@ use Rattle.syntax.specs.Trees.{elems}
 use Rattle.syntax.specs.Accessors.{rest}
 use Rattle.syntax.proofs.AccessorLaws.{rest_are}
 use Rattle.siblings.proofs.SiblingLaws.{passes-some}
-use borrow.Author.Rules.{rules}
 use Rattle.siblings.proofs.width.Goals as goal
 
 pub returns : goal.returns

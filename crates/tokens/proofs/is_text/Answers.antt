@@ -1,8 +1,6 @@
 -- `tokens::is_text` meets its contract.
 use Rattle.tokens.proofs.Laws.{rest-step, rest_end}
 use native.Mathlib.Omega.{arith}
-use mathlib.Core.Path.{◌∙◌}
-use borrow.Author.Rules.{rules}
 use Rattle.tokens.proofs.is_text.Goals as goal
 
 pub text_at-requires : goal.text_at-requires

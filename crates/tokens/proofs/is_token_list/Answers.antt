@@ -1,12 +1,12 @@
 -- `tokens::is_token_list` meets its contract.
 use Rattle.words.specs.Fields.{token_length}
-use Rattle.tokens.specs.Tokens.{is_token_word, all_token_words, total_length}
+use Rattle.tokens.specs.Tokens.{is_token_word, total_length}
 use native.Mathlib.Nat.{zero-add}
 use Rattle.tokens.proofs.Laws.{all-step, all_end, total-step, total_end, too_many, not_tokens, all_tokens}
-use lib.ListN.{length, drop}
+use lib.ListN.{drop}
 use borrow.Author.Rules.{rules}
 use native.Mathlib.Omega.{arith}
-use Prim.Native.Nat.{◌≤◌, ◌-◌, ◌+◌, ◌*◌}
+use Prim.Native.Nat.{◌-◌}
 use mathlib.Core.Bool.{true, false}
 use mathlib.Core.Path.{◌≡◌, refl, sym, ◌∙◌}
 use Rattle.std.proofs.Common.{rules}

@@ -1,14 +1,8 @@
 -- `tokens::is_token_list` meets its contract.
-use Rattle.words.specs.Fields.{token_length}
-use Rattle.tokens.specs.Tokens.{is_token_word, all_token_words, total_length}
-use native.Mathlib.Nat.{zero-add}
-use Rattle.tokens.proofs.Laws.{all-step, all_end, total-step, total_end, too_many, not_tokens, all_tokens}
+use Rattle.tokens.specs.Tokens.{all_token_words, total_length}
 use lib.ListN.{length, drop}
-use borrow.Author.Rules.{rules}
-use native.Mathlib.Omega.{arith}
 use Prim.Native.Nat.{◌≤◌, ◌-◌, ◌+◌, ◌*◌}
-use mathlib.Core.Bool.{true, false}
-use mathlib.Core.Path.{◌≡◌, refl, sym, ◌∙◌}
+use mathlib.Core.Path.{◌≡◌}
 use Rattle.tokens.proofs.is_token_list.Given as goal
 
 abbrev pub invariant-loop-i : goal.invariant-loop-i

@@ -1,5 +1,4 @@
 -- `tokens::is_token_word` meets its contract.
-use borrow.Author.Rules.{rules}
 use Rattle.tokens.proofs.is_token_word.Goals as goal
 
 pub returns : goal.returns

@@ -1,6 +1,5 @@
 -- `tokens::next` meets its contract.
 use native.Mathlib.Omega.{arith}
-use borrow.Author.Rules.{rules}
 use Rattle.tokens.proofs.next.Goals as goal
 
 pub returns : goal.returns

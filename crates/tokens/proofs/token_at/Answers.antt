@@ -1,6 +1,4 @@
 -- `tokens::token_at` meets its contract.
-use mathlib.Core.Path.{◌∙◌}
-use borrow.Author.Rules.{rules}
 use Rattle.tokens.proofs.token_at.Goals as goal
 
 pub returns : goal.returns

@@ -1,14 +1,10 @@
 -- `tree_checks::is_shallow` meets its contract: any answer that is right for what is left is right for the part.
-use mathlib.Core.Path.{◌≡◌, sym, ap, ◌∙◌}
-use mathlib.Core.Bool.{Bool, true, false}
+use mathlib.Core.Path.{◌≡◌}
+use mathlib.Core.Bool.{Bool}
 use lib.Dec.{leb}
-use lib.ListN.{length, length-take, length-drop}
-use native.Mathlib.Omega.{arith}
-use Rattle.syntax.specs.Parts.{span}
+use lib.ListN.{length}
 use Rattle.syntax.specs.Trees.{depth, elems}
-use Rattle.syntax.proofs.PartLaws.{rest_shorter, rest-token}
-use Rattle.tree_checks.proofs.DepthLaws.{shallow_end, shallow_zero, shallow_next, shallow_few}
-use Prim.Native.Nat.{ℕ, ◌+◌, ◌<◌}
+use Prim.Native.Nat.{ℕ}
 use Rattle.tree_checks.proofs.+is_shallow.Given as goal
 
 abbrev pub decreases-is_shallow : goal.decreases-is_shallow

@@ -1,13 +1,12 @@
 -- `tree_checks::are_elements` meets its contract.
-use mathlib.Core.Path.{◌≡◌, refl, sym, ◌∙◌}
+use mathlib.Core.Path.{◌≡◌, sym, ◌∙◌}
 use mathlib.Core.Bool.{true, false}
-use lib.ListN.{length, length-take, length-drop}
+use lib.ListN.{length-take, length-drop}
 use native.Mathlib.Omega.{arith}
-use Rattle.syntax.specs.Rows.{is_element, every}
+use Rattle.syntax.specs.Rows.{is_element}
 use Rattle.syntax.proofs.PartLaws.{slice_end}
 use Rattle.syntax.proofs.RowLaws.{every-next}
 use Rattle.tree_checks.proofs.RowLaws.{every-last}
-use borrow.Author.Rules.{rules}
 use Rattle.tree_checks.proofs.are_elements.Goals as goal
 
 pub loop-c-smaller : goal.loop-c-smaller

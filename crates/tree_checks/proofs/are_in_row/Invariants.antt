@@ -1,13 +1,8 @@
 -- `tree_checks::are_in_row` meets its contract.
-use mathlib.Core.Path.{◌≡◌, refl, sym, ap, ◌∙◌}
-use mathlib.Core.List.{List}
-use Prim.Native.Nat.{ℕ, ◌*◌, ◌-◌}
-use lib.ListN.{length, take, drop, length-take, length-drop}
-use native.Mathlib.Omega.{arith}
-use borrow.Author.Rules.{rules}
+use mathlib.Core.Path.{◌≡◌}
+use Prim.Native.Nat.{◌-◌}
+use lib.ListN.{length}
 use Rattle.syntax.specs.Rows.{in_row}
-use Rattle.syntax.proofs.PartLaws.{span_pos, span_few, span-token, slice_end, rest-token}
-use Rattle.tree_checks.proofs.RowLaws.{row_on, row_off, row_cut, row_last}
 use Rattle.tree_checks.proofs.are_in_row.Given as goal
 
 abbrev pub invariant-loop-c : goal.invariant-loop-c

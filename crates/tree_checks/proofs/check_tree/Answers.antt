@@ -1,7 +1,6 @@
 -- `tree_checks::check_tree` meets its contract.
-use mathlib.Core.Path.{sym, ap, ◌∙◌}
+use mathlib.Core.Path.{sym, ◌∙◌}
 use mathlib.Core.Bool.{true, false}
-use Rattle.syntax.specs.Checks.{tree_outcome}
 use Rattle.syntax.proofs.CheckLaws.{not_large, too_large, other_text, no_tree, too_deep, a_tree}
 use borrow.Author.Rules.{rules}
 use Rattle.std.proofs.Common.{rules}

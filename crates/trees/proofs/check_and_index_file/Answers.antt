@@ -6,7 +6,6 @@ use Rattle.errors.proofs.Laws.{refused_not}
 use Rattle.syntax.proofs.CheckLaws.{accepted}
 use Rattle.facts.specs.declared.Owner.TheVariants.{File}
 use Rattle.trees.proofs.GivenLaws.{tree-refused, facts_good, facts_bad}
-use borrow.Author.Rules.{rules}
 use Rattle.trees.proofs.check_and_index_file.Goals as goal
 
 pub check_and_index-requires : goal.check_and_index-requires

@@ -1,8 +1,6 @@
 -- `trees::check_file` meets its contract.
-use mathlib.Core.Path.{sym, subst, ◌∙◌}
-use mathlib.Core.Logic.{◌↔◌}
+use mathlib.Core.Path.{sym, ◌∙◌}
 use lib.ListN.{length}
-use Rattle.errors.specs.declared.Outcome.TheVariants.{Accepted}
 use Rattle.facts.specs.declared.Owner.TheVariants.{File}
 use Rattle.trees.proofs.GivenLaws.{stands_exactly}
 use borrow.Author.Rules.{rules}

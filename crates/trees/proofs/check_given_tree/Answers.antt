@@ -1,9 +1,7 @@
 -- `trees::check_given_tree` meets its contract.
-use mathlib.Core.Path.{◌≡◌, sym, ap, ◌∙◌}
-use lib.ListN.{length}
+use mathlib.Core.Path.{◌∙◌}
 use Rattle.parsing.specs.Reading.{reading}
 use Rattle.parsing.proofs.ListLaws.{was_read, was_refused, read_formed}
-use Rattle.trees.specs.Given.{rule_outcome, listed_outcome, given_outcome}
 use borrow.Author.Rules.{rules}
 use Rattle.std.proofs.Common.{rules}
 use Rattle.trees.proofs.check_given_tree.Goals as goal

@@ -1,5 +1,4 @@
 -- `trees::check_rule_tree` meets its contract.
-use mathlib.Core.Path.{sym, ◌∙◌}
 use borrow.Author.Tests.{eq-eqb, ne_eqb}
 use Rattle.errors.specs.Refusals.{first_of}
 use borrow.Author.Rules.{rules}

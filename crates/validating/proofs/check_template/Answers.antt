@@ -2,10 +2,9 @@
 use Rattle.validating.proofs.Laws.{has-constraint}
 use Rattle.validating.specs.Pairs.{defines_all}
 use borrow.Author.Tests.{lt-ltb, le-ltb}
-use Prim.Native.Nat.{◌+◌, ◌-◌, ◌<◌, ◌≤◌}
+use Prim.Native.Nat.{◌-◌}
 use mathlib.Core.Bool.{true, false}
 use mathlib.Core.Path.{◌≡◌, sym, ◌∙◌}
-use borrow.Author.Rules.{rules}
 use Rattle.validating.proofs.check_template.Goals as goal
 
 pub returns-then-template-gt0 : goal.returns-then-template-gt0

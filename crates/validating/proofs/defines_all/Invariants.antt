@@ -1,16 +1,11 @@
 -- `validating::defines_all` meets its contract.
-use Rattle.validating.proofs.Laws.{defines_end, defines_at}
 use Rattle.validating.specs.Pairs.{defines_all}
-use Rattle.parsing.proofs.PatternLaws.{count_of}
 use Rattle.parsing.specs.Answers.{pattern_of}
 use Rattle.parsing.specs.Reading.{Var}
 use lib.ListN.{drop}
-use borrow.Author.Tests.{lt-ltb, le-ltb}
-use borrow.Author.Rules.{rules}
-use native.Mathlib.Omega.{arith}
-use Prim.Native.Nat.{◌+◌, ◌-◌, ◌<◌, ◌≤◌}
+use Prim.Native.Nat.{◌-◌, ◌≤◌}
 use mathlib.Core.List.{List, []}
-use mathlib.Core.Path.{◌≡◌, refl, sym, ◌∙◌}
+use mathlib.Core.Path.{◌≡◌}
 use Rattle.validating.proofs.defines_all.Given as goal
 
 abbrev pub invariant-loop-i : goal.invariant-loop-i

@@ -2,9 +2,8 @@
 use Rattle.parsing.specs.Reading.{read, vars}
 use Rattle.parsing.proofs.ListLaws.{was_read, was_refused}
 use Rattle.validating.specs.Pairs.{both_lists}
-use Prim.Native.Nat.{◌+◌, ◌-◌, ◌<◌, ◌≤◌}
-use mathlib.Core.Path.{◌≡◌, sym, ap, ◌∙◌}
-use borrow.Author.Rules.{rules}
+use Prim.Native.Nat.{◌-◌}
+use mathlib.Core.Path.{sym, ap, ◌∙◌}
 use Rattle.validating.proofs.validate_lists.Goals as goal
 
 pub returns-in-Accepted-t : goal.returns-in-Accepted-t

@@ -1,8 +1,7 @@
 -- `validating::validate_rule` meets its contract.
 use Rattle.parsing.specs.Reading.{reading}
-use Prim.Native.Nat.{◌+◌, ◌-◌, ◌<◌, ◌≤◌}
-use mathlib.Core.Path.{◌≡◌, ap, ◌∙◌}
-use borrow.Author.Rules.{rules}
+use Prim.Native.Nat.{◌-◌}
+use mathlib.Core.Path.{ap, ◌∙◌}
 use Rattle.validating.proofs.validate_rule.Goals as goal
 
 pub returns-then-has_template : goal.returns-then-has_template

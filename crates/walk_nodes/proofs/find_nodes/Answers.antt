@@ -1,6 +1,5 @@
 -- `walk_nodes::find_nodes` meets its contract: what matches below the element looked at is laid.
 use mathlib.Core.Path.{◌≡◌, refl, sym, ◌∙◌}
-use mathlib.Core.Logic.{⊎_elim}
 use mathlib.Core.List.{List}
 use Prim.Native.Nat.{ℕ, ◌+◌, ◌-◌, ◌/◌, ◌≤◌}
 use native.Mathlib.Omega.{arith}
@@ -11,6 +10,7 @@ use Rattle.syntax.proofs.Places.{tree-size}
 use Rattle.get_match.proofs.TryLaws.{root_long}
 use Rattle.walk_nodes.proofs.NodeLaws.{LaysBelow, lays_none, lays_same, lays_more, lays_many, lays_on, lays_all}
 use Rattle.walk_nodes.proofs.find_nodes.Goals as goal
+use Rattle.walk_nodes.proofs.find_nodes.Goals.{then-is_match+else-count-eq1024, else-is_match}
 
 sized : (l : List ℕ) → WellFormed l → size (tree l) ≡ length l / 3
 sized l w = omega (arith, tree-size l w)
@@ -57,22 +57,21 @@ loop-node-preserved c = let a = c.args in let l = c.loop-node in let m = c.is_ma
     let facts = a.facts.now in let paths = a.paths.now in let t = a.template_facts.now in
     let Now = LaysBelow p rule file marks words facts paths t a.cx a.has_template a.elements a.number a.range a.before a.candidates.now in
     let step : (if1.count ≤ 1024) × (length if1.candidates ≡ length a.candidates.now) × Now (l.node + 1) if1.count if1.candidates =
-    ⊎_elim
-    (λ w. rw (w.2, w.3) (
+    elim if1.branch [
+    then-is_match+else-count-eq1024 w ↦ rw (w.candidates-is, w.count-is) (
       omega (arith, l.invariant.1),
       simp length-set l.invariant.2,
       lays_more p rule file marks words facts paths t a.cx a.has_template a.elements a.number a.range a.before
           a.candidates.now l.node l.count l.candidates l.invariant.4
-          (λ x root calls f u n k. sym (m.ensures.value x root calls f u n k) ∙ w.0.taken) (omega (arith, c.requires.number_bound.2, l.invariant.1, l.invariant.2)),
-    ))
-    (λ w. rw (w.1, w.2) (
+          (λ x root calls f u n k. sym (m.ensures.value x root calls f u n k) ∙ w.if-is_match.true) (omega (arith, c.requires.number_bound.2, l.invariant.1, l.invariant.2)),
+    )
+    | else-is_match w ↦ rw (w.candidates-is, w.count-is) (
       l.invariant.1,
       l.invariant.2,
       lays_same p rule file marks words facts paths t a.cx a.has_template a.elements a.number a.range a.before
           a.candidates.now l.node l.count l.candidates l.invariant.4
-          (λ x root calls f u n k. sym (m.ensures.value x root calls f u n k) ∙ w.0.left),
-    ))
-    if1.branch in (
+          (λ x root calls f u n k. sym (m.ensures.value x root calls f u n k) ∙ w.if-is_match.false),
+    ) ] in (
       v.ensures.lower_bound.1,
       step.0,
       step.1,

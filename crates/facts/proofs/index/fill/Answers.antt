@@ -1,10 +1,8 @@
 -- `facts::index::fill` meets its contract.
 use mathlib.Core.Path.{◌≡◌, refl, sym, ◌∙◌}
-use mathlib.Core.List.{◌++◌}
-use Prim.Native.Nat.{◌-◌, ◌*◌, ◌<◌, ◌≤◌}
+use Prim.Native.Nat.{◌-◌, ◌*◌, ◌<◌}
 use native.Mathlib.Omega.{arith}
-use borrow.Author.Rules.{rules}
-use lib.ListN.{length, take, drop, length-set}
+use lib.ListN.{length, drop, length-set}
 use Rattle.facts.specs.Facts.{fact_at, facts_of}
 use Rattle.facts.specs.Keys.{entries_from, key_of}
 use Rattle.facts.proofs.FactLaws.{facts_from, low_drop}

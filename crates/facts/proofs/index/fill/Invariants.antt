@@ -1,14 +1,10 @@
 -- `facts::index::fill` meets its contract.
-use mathlib.Core.Path.{◌≡◌, refl, sym, ◌∙◌}
+use mathlib.Core.Path.{◌≡◌}
 use mathlib.Core.List.{◌++◌}
-use Prim.Native.Nat.{◌-◌, ◌*◌, ◌<◌, ◌≤◌}
-use native.Mathlib.Omega.{arith}
-use borrow.Author.Rules.{rules}
-use lib.ListN.{length, take, drop, length-set}
-use Rattle.facts.specs.Facts.{fact_at, facts_of}
-use Rattle.facts.specs.Keys.{entries_from, key_of}
-use Rattle.facts.proofs.FactLaws.{facts_from, low_drop}
-use Rattle.facts.proofs.IndexLaws.{entries-more, entries_end}
+use Prim.Native.Nat.{◌-◌, ◌≤◌}
+use lib.ListN.{length, take, drop}
+use Rattle.facts.specs.Facts.{facts_of}
+use Rattle.facts.specs.Keys.{entries_from}
 use Rattle.facts.proofs.index.fill.Given as goal
 
 abbrev pub invariant-loop-i : goal.invariant-loop-i

@@ -1,6 +1,5 @@
 -- `facts::index::find_entry` meets its contract.
 use mathlib.Core.Path.{sym}
-use borrow.Author.Rules.{rules}
 use Rattle.facts.proofs.IndexLaws.{found_hit, found-other, found_end}
 use Rattle.facts.proofs.index.find_entry.Goals as goal
 

@@ -1,10 +1,7 @@
 -- `facts::index::is_steady` meets its contract.
-use mathlib.Core.Path.{◌≡◌, refl, sym, ◌∙◌}
-use Prim.Native.Nat.{◌-◌, ◌≤◌}
+use mathlib.Core.Path.{refl, sym, ◌∙◌}
+use Prim.Native.Nat.{◌-◌}
 use native.Mathlib.Omega.{arith}
-use borrow.Author.Rules.{rules}
-use lib.ListN.{length, drop}
-use Rattle.facts.specs.Keys.{is_steady}
 use Rattle.facts.proofs.IndexLaws.{steady_stops, steady_goes, steady_end}
 use Rattle.facts.proofs.index.is_steady.Goals as goal
 

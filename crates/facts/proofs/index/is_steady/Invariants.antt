@@ -1,11 +1,8 @@
 -- `facts::index::is_steady` meets its contract.
-use mathlib.Core.Path.{◌≡◌, refl, sym, ◌∙◌}
+use mathlib.Core.Path.{◌≡◌}
 use Prim.Native.Nat.{◌-◌, ◌≤◌}
-use native.Mathlib.Omega.{arith}
-use borrow.Author.Rules.{rules}
 use lib.ListN.{length, drop}
 use Rattle.facts.specs.Keys.{is_steady}
-use Rattle.facts.proofs.IndexLaws.{steady_stops, steady_goes, steady_end}
 use Rattle.facts.proofs.index.is_steady.Given as goal
 
 abbrev pub invariant-loop-i : goal.invariant-loop-i

@@ -1,7 +1,6 @@
 -- `facts::index::key_of` meets its contract.
 use Prim.Native.Nat.{◌<◌}
 use native.Mathlib.Omega.{arith}
-use borrow.Author.Rules.{rules}
 use Rattle.facts.specs.Facts.{fact_at}
 use Rattle.facts.proofs.KeyLaws.{low_selector}
 use Rattle.facts.proofs.index.key_of.Goals as goal

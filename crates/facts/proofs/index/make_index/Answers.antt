@@ -1,6 +1,5 @@
 -- `facts::index::make_index` meets its contract.
 use mathlib.Core.Path.{ap, ◌∙◌}
-use borrow.Author.Rules.{rules}
 use Rattle.sorting.specs.Sorted.{sort}
 use Rattle.facts.specs.Keys.{index_of}
 use Rattle.facts.proofs.index.make_index.Goals as goal

@@ -1,5 +1,4 @@
 -- `facts::index::selector_of` meets its contract.
-use borrow.Author.Rules.{rules}
 use Rattle.facts.proofs.index.selector_of.Goals as goal
 
 pub returns-then-sort : goal.returns-then-sort

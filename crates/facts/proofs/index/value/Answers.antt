@@ -1,7 +1,6 @@
 -- `facts::index::value` meets its contract.
 use Prim.Native.Nat.{◌*◌, ◌≤◌}
 use native.Mathlib.Omega.{arith}
-use borrow.Author.Rules.{rules}
 use lib.ListN.{length, drop_of_length-le}
 use Rattle.facts.proofs.index.value.Goals as goal
 

@@ -6,7 +6,6 @@ use native.Mathlib.Omega.{arith}
 use lib.Dec.{leb}
 use borrow.Author.Tests.{leb-true}
 use Rattle.words.proofs.TestLaws.{and_both}
-use Rattle.fragments.specs.Directory.{row_count, add_up}
 use Rattle.fragments.proofs.DirectoryLaws.{add-next, add_fails, add_end}
 use Rattle.fragments.proofs.directory.add_up.Goals as goal
 

@@ -1,13 +1,7 @@
 -- `fragments::directory::add_up` meets its contract.
-use mathlib.Core.Path.{◌≡◌, ◌∙◌, sym, refl}
-use mathlib.Core.Bool.{◌&&◌}
+use mathlib.Core.Path.{◌≡◌}
 use Prim.Native.Nat.{◌-◌}
-use native.Mathlib.Omega.{arith}
-use lib.Dec.{leb}
-use borrow.Author.Tests.{leb-true}
-use Rattle.words.proofs.TestLaws.{and_both}
 use Rattle.fragments.specs.Directory.{row_count, add_up}
-use Rattle.fragments.proofs.DirectoryLaws.{add-next, add_fails, add_end}
 use Rattle.fragments.proofs.directory.add_up.Given as goal
 
 abbrev pub invariant-loop-n : goal.invariant-loop-n

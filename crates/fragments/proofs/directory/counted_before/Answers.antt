@@ -1,8 +1,7 @@
 -- `fragments::directory::counted_before` meets its contract.
 use mathlib.Core.Path.{◌≡◌, ◌∙◌, sym}
-use Prim.Native.Nat.{◌*◌, ◌-◌, ◌≤◌}
+use Prim.Native.Nat.{◌-◌}
 use native.Mathlib.Omega.{arith}
-use Rattle.fragments.specs.Directory.{before}
 use Rattle.fragments.proofs.DirectoryLaws.{before_start, before-next}
 use Rattle.fragments.proofs.directory.counted_before.Goals as goal
 

@@ -1,6 +1,5 @@
 -- `matcher::file_facts::calls_function` meets its contract.
 use Rattle.matcher.proofs.FactLaws.{known, unknown}
-use borrow.Author.Rules.{rules}
 use Rattle.matcher.proofs.file_facts.calls_function.Goals as goal
 
 pub returns-then-place-facts : goal.returns-then-place-facts

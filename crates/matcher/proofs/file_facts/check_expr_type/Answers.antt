@@ -1,10 +1,9 @@
 -- `matcher::file_facts::check_expr_type` meets its contract. What is left of the steps gives what all of them give.
-use mathlib.Core.Path.{◌≡◌, sym, ◌∙◌}
-use Prim.Native.Nat.{◌-◌, ◌/◌, ◌≤◌}
+use mathlib.Core.Path.{sym, ◌∙◌}
+use Prim.Native.Nat.{◌-◌, ◌/◌}
 use native.Mathlib.Omega.{arith}
 use lib.ListN.{length}
 use Rattle.facts.proofs.FactLaws.{length_facts}
-use Rattle.matcher.specs.FileFacts.{derefs, derefs_from}
 use Rattle.matcher.proofs.FactLaws.{deref_start, deref_end, deref_none, deref_here, deref_next}
 use borrow.Author.Rules.{rules}
 use Rattle.std.proofs.Common.{rules}

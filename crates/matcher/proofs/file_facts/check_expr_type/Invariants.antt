@@ -1,12 +1,7 @@
 -- `matcher::file_facts::check_expr_type` meets its contract. What is left of the steps gives what all of them give.
-use mathlib.Core.Path.{◌≡◌, sym, ◌∙◌}
-use Prim.Native.Nat.{◌-◌, ◌/◌, ◌≤◌}
-use native.Mathlib.Omega.{arith}
-use lib.ListN.{length}
-use Rattle.facts.proofs.FactLaws.{length_facts}
+use mathlib.Core.Path.{◌≡◌}
+use Prim.Native.Nat.{◌-◌, ◌≤◌}
 use Rattle.matcher.specs.FileFacts.{derefs, derefs_from}
-use Rattle.matcher.proofs.FactLaws.{deref_start, deref_end, deref_none, deref_here, deref_next}
-use borrow.Author.Rules.{rules}
 use Rattle.matcher.proofs.file_facts.check_expr_type.Given as goal
 
 abbrev pub invariant-loop-step : goal.invariant-loop-step

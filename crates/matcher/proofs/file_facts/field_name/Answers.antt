@@ -4,7 +4,6 @@ use native.Mathlib.Omega.{arith}
 use Rattle.syntax.proofs.TreeLaws.{elems_end}
 use Rattle.matcher.proofs.FactLaws.{known, unknown}
 use Rattle.matcher.proofs.NameLaws.{alone_at}
-use borrow.Author.Rules.{rules}
 use Rattle.matcher.proofs.file_facts.field_name.Goals as goal
 
 pub returns-then-place-facts : goal.returns-then-place-facts

@@ -1,5 +1,4 @@
 -- `matcher::file_facts::self_kind` meets its contract.
-use borrow.Author.Rules.{rules}
 use Rattle.matcher.proofs.file_facts.self_kind.Goals as goal
 
 pub returns : goal.returns

@@ -1,5 +1,4 @@
 -- `matcher::file_facts::takes_self` meets its contract.
-use borrow.Author.Rules.{rules}
 use Rattle.matcher.proofs.file_facts.takes_self.Goals as goal
 
 pub returns : goal.returns

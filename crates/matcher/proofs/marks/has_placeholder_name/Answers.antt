@@ -1,5 +1,4 @@
 -- `matcher::marks::has_placeholder_name` meets its contract.
-use borrow.Author.Rules.{rules}
 use Rattle.matcher.proofs.marks.has_placeholder_name.Goals as goal
 
 pub returns-then-is_node_in : goal.returns-then-is_node_in

@@ -1,7 +1,6 @@
 -- `matcher::marks::is_call` meets its contract.
 use Rattle.matcher.specs.Matcher.{mark}
 use Rattle.matcher.proofs.MarkLaws.{call_is}
-use borrow.Author.Rules.{rules}
 use Rattle.matcher.proofs.marks.is_call.Goals as goal
 
 pub returns : goal.returns

@@ -4,7 +4,6 @@ use lib.ListN.{length}
 use borrow.Author.Tests.{le-leb, ltb-true}
 use Rattle.syntax.proofs.TreeLaws.{elems_end}
 use Rattle.syntax.proofs.AccessorLaws.{some_is, number_is}
-use borrow.Author.Rules.{rules}
 use Rattle.matcher.proofs.marks.is_placeholder.Goals as goal
 
 pub returns-then-p-lt3 : goal.returns-then-p-lt3

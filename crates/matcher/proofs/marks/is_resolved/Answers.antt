@@ -1,7 +1,6 @@
 -- `matcher::marks::is_resolved` meets its contract.
 use Rattle.matcher.specs.Matcher.{mark}
 use Rattle.matcher.proofs.MarkLaws.{resolved_is}
-use borrow.Author.Rules.{rules}
 use Rattle.matcher.proofs.marks.is_resolved.Goals as goal
 
 pub returns : goal.returns

@@ -1,7 +1,6 @@
 -- `matcher::marks::is_typed` meets its contract.
 use Rattle.matcher.specs.Matcher.{mark}
 use Rattle.matcher.proofs.MarkLaws.{typed_is}
-use borrow.Author.Rules.{rules}
 use Rattle.matcher.proofs.marks.is_typed.Goals as goal
 
 pub returns : goal.returns

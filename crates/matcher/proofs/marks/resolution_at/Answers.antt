@@ -2,7 +2,6 @@
 use mathlib.Core.Path.{sym, ◌∙◌}
 use Rattle.matcher.specs.Matcher.{mark}
 use Rattle.matcher.proofs.MarkLaws.{resolution_none, resolution_is}
-use borrow.Author.Rules.{rules}
 use Rattle.matcher.proofs.marks.resolution_at.Goals as goal
 
 pub returns-then-w-eq0 : goal.returns-then-w-eq0

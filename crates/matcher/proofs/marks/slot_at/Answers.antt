@@ -1,7 +1,6 @@
 -- `matcher::marks::slot_at` meets its contract.
 use mathlib.Core.Path.{sym, ◌∙◌}
 use borrow.Author.Tests.{eq-eqb, ne_eqb}
-use borrow.Author.Rules.{rules}
 use Rattle.matcher.proofs.marks.slot_at.Goals as goal
 
 pub returns-then-w-eq0 : goal.returns-then-w-eq0

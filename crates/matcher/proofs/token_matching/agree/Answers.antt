@@ -1,6 +1,5 @@
 -- `matcher::token_matching::agree` meets its contract.
 use borrow.Author.Tests.{eq-eqb, ne_eqb}
-use borrow.Author.Rules.{rules}
 use Rattle.matcher.proofs.token_matching.agree.Goals as goal
 
 pub returns-then-kind-other_kind : goal.returns-then-kind-other_kind

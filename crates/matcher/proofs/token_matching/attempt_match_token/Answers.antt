@@ -6,7 +6,6 @@ use native.Mathlib.Omega.{arith}
 use Rattle.syntax.specs.Trees.{elems}
 use Rattle.siblings.proofs.SiblingLaws.{token_long}
 use Rattle.matcher.proofs.TokenLaws.{same_token_is, pass_more, pass_none, matches-extra, matches-past, after-extra, after-past}
-use borrow.Author.Rules.{rules}
 use Rattle.matcher.proofs.token_matching.attempt_match_token.Goals as goal
 
 pub returns-then-is_extra : goal.returns-then-is_extra

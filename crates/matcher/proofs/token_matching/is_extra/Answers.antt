@@ -1,5 +1,4 @@
 -- `matcher::token_matching::is_extra` meets its contract.
-use borrow.Author.Rules.{rules}
 use Rattle.matcher.proofs.token_matching.is_extra.Goals as goal
 
 pub returns : goal.returns

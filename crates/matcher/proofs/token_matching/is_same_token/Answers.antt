@@ -1,5 +1,4 @@
 -- `matcher::token_matching::is_same_token` meets its contract.
-use borrow.Author.Rules.{rules}
 use Rattle.matcher.proofs.token_matching.is_same_token.Goals as goal
 
 pub returns-then-is_token_in : goal.returns-then-is_token_in

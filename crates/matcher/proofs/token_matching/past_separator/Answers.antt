@@ -6,7 +6,6 @@ use Rattle.words.proofs.TestLaws.{and_both}
 use Rattle.syntax.specs.Trees.{elems}
 use Rattle.siblings.proofs.SiblingLaws.{token_long}
 use Rattle.matcher.proofs.TokenLaws.{pass_more, pass_none, past-none, past-some}
-use borrow.Author.Rules.{rules}
 use Rattle.matcher.proofs.token_matching.past_separator.Goals as goal
 
 pub width-n-requires : goal.width-n-requires

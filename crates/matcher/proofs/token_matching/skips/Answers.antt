@@ -1,5 +1,4 @@
 -- `matcher::token_matching::skips` meets its contract.
-use borrow.Author.Rules.{rules}
 use Rattle.matcher.proofs.token_matching.skips.Goals as goal
 
 pub returns : goal.returns

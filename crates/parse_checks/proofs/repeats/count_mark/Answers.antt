@@ -1,6 +1,5 @@
 -- `parse_checks::repeats::count_mark` meets its contract.
 use mathlib.Core.Path.{sym}
-use borrow.Author.Rules.{rules}
 use borrow.Author.Tests.{lt-ltb, le-ltb}
 use Rattle.parse_checks.proofs.repeats.count_mark.Goals as goal
 

@@ -1,14 +1,10 @@
 -- `parse_checks::repeats::count_marks` meets its contract.
-use mathlib.Core.Path.{◌≡◌, sym, ap, ap₂, ◌∙◌}
+use mathlib.Core.Path.{◌≡◌}
 use mathlib.Core.Bool.{true}
-use native.Mathlib.Omega.{arith}
-use lib.ListN.{length, get_or, length-drop}
+use lib.ListN.{length, get_or}
 use Prim.Native.Nat.{ℕ, ◌+◌, ◌<◌}
-use borrow.Author.Rules.{rules}
 use Rattle.parses.specs.Parses.{parses_of, is_parse_list}
-use Rattle.parse_checks.specs.Marks.{mark_of, marked}
-use Rattle.parses.proofs.ParseLaws.{list_parse}
-use Rattle.parse_checks.proofs.MarkLaws.{marked-none, length-counted, counted-parse}
+use Rattle.parse_checks.specs.Marks.{marked}
 use Rattle.parse_checks.proofs.repeats.count_marks.Given as goal
 
 abbrev pub invariant-loop-c : goal.invariant-loop-c

@@ -1,10 +1,9 @@
 -- `parse_checks::repeats::is_again` meets its contract.
-use mathlib.Core.Path.{◌≡◌, sym, ap, ap₂, subst, ◌∙◌}
+use mathlib.Core.Path.{sym, ap₂, subst, ◌∙◌}
 use native.Mathlib.Omega.{arith}
-use lib.ListN.{length, get_or, drop}
+use lib.ListN.{get_or}
 use Prim.Native.Nat.{ℕ, ◌<◌}
 use mathlib.Core.List.{List}
-use borrow.Author.Rules.{rules}
 use Rattle.parses.specs.Parses.{parses_of, is_handed, lookup}
 use Rattle.parse_checks.specs.Marks.{mark_of}
 use Rattle.parse_checks.proofs.ParseLaws.{found_is_lem}

@@ -1,7 +1,6 @@
 -- `parse_checks::repeats::is_repeated` meets its contract.
 use mathlib.Core.Path.{sym}
 use mathlib.Core.Bool.{true≢false}
-use borrow.Author.Rules.{rules}
 use Rattle.parse_checks.proofs.repeats.is_repeated.Goals as goal
 
 pub is_repeated_by-requires : goal.is_repeated_by-requires

@@ -1,6 +1,5 @@
 -- `parse_checks::repeats::is_repeated_among` meets its contract.
 use mathlib.Core.Path.{refl}
-use borrow.Author.Rules.{rules}
 use Rattle.parse_checks.proofs.MarkLaws.{none-counted}
 use Rattle.parse_checks.proofs.repeats.is_repeated_among.Goals as goal
 

@@ -1,11 +1,8 @@
 -- `parse_checks::repeats::mark_from` meets its contract.
-use mathlib.Core.Path.{◌≡◌, refl, sym, ap, ◌∙◌}
-use native.Mathlib.Omega.{arith}
+use mathlib.Core.Path.{◌≡◌}
 use lib.ListN.{length, drop}
-use Prim.Native.Nat.{ℕ, ◌<◌, ◌≤◌, ◌-◌, ◌+◌, ◌*◌, ◌%◌}
-use borrow.Author.Rules.{rules}
+use Prim.Native.Nat.{◌<◌, ◌≤◌, ◌-◌}
 use Rattle.parse_checks.specs.Marks.{mark_from}
-use Rattle.parse_checks.proofs.MarkLaws.{mark-step, mark_end}
 use Rattle.parse_checks.proofs.repeats.mark_from.Given as goal
 
 abbrev pub invariant-loop-i : goal.invariant-loop-i

@@ -6,12 +6,10 @@ use Rattle.parsing.proofs.Laws.{run_end, goes, stops, head_true, expected, unexp
 use Rattle.parsing.specs.Reading.{constraint, not_open, kind_open, is_text}
 use Rattle.tokens.specs.Tokens.{head_is, rest}
 use Rattle.words.specs.Texts.{kind_text, not_text, open_text}
-use lib.ListN.{length}
 use native.Mathlib.Omega.{arith}
-use Prim.Native.Nat.{◌+◌, ◌<◌, ◌≤◌}
+use Prim.Native.Nat.{◌+◌}
 use mathlib.Core.Bool.{true, false}
 use mathlib.Core.Path.{◌≡◌, refl, sym, ap, ◌∙◌}
-use Prim.Native.Nat.{ℕ, ◌<◌}
 use Rattle.parsing.proofs.constraints.+parse_constraint.Goals as goal
 
 pub returns-then-words-c : goal.returns-then-words-c

@@ -5,10 +5,8 @@ use borrow.Author.Tests.{eq-eqb, ne_eqb}
 use Rattle.errors.specs.declared.Refusal.TheVariants.{UnexpectedToken}
 use Rattle.parsing.specs.Reading.{constraint, inside, is_colon, is_closing_brace}
 use native.Mathlib.Omega.{arith}
-use Prim.Native.Nat.{◌+◌, ◌<◌, ◌≤◌}
 use mathlib.Core.Bool.{true, false}
 use mathlib.Core.Path.{◌≡◌, ap, ◌∙◌}
-use borrow.Author.Rules.{rules}
 use Rattle.parsing.proofs.constraints.parse_inside.Goals as goal
 
 pub returns-then-words-c : goal.returns-then-words-c

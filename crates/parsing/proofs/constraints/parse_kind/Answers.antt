@@ -6,11 +6,9 @@ use Rattle.parsing.specs.Reading.{kind_open, kind_name, kind_close, is_ident}
 use Rattle.tokens.specs.Tokens.{head_is, rest}
 use Rattle.words.specs.Texts.{open_text}
 use native.Mathlib.Omega.{arith}
-use Prim.Native.Nat.{◌+◌, ◌<◌, ◌≤◌}
 use mathlib.Core.Bool.{true, false}
 use mathlib.Core.Path.{◌≡◌, refl, sym, ap, ◌∙◌}
 use Rattle.parsing.proofs.Chains.{kind_end}
-use borrow.Author.Rules.{rules}
 use Rattle.parsing.proofs.constraints.parse_kind.Goals as goal
 
 pub next-d-requires : goal.next-d-requires

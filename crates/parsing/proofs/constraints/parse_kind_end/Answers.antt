@@ -4,10 +4,8 @@ use Rattle.parsing.proofs.Laws.{here, stops, head_true, expected, unexpected}
 use Rattle.parsing.specs.Reading.{closed, kind_close, is_text}
 use Rattle.tokens.specs.Tokens.{head_is, rest}
 use Rattle.words.specs.Texts.{literal_text, close_text}
-use Prim.Native.Nat.{◌+◌, ◌<◌, ◌≤◌}
 use mathlib.Core.Bool.{true, false}
 use mathlib.Core.Path.{◌≡◌, refl, sym, ap, ◌∙◌}
-use borrow.Author.Rules.{rules}
 use Rattle.parsing.proofs.constraints.parse_kind_end.Goals as goal
 
 pub next-requires : goal.next-requires

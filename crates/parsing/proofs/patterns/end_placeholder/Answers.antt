@@ -7,10 +7,8 @@ use Rattle.tokens.specs.Tokens.{token_text}
 use borrow.Author.Tests.{lt-ltb, le-ltb, le-leb, lt-leb}
 use lib.ListN.{length}
 use native.Mathlib.Omega.{arith}
-use Prim.Native.Nat.{◌+◌, ◌<◌, ◌≤◌}
 use mathlib.Core.Bool.{true, false}
 use mathlib.Core.Path.{◌≡◌, refl, ◌∙◌}
-use borrow.Author.Rules.{rules}
 use Rattle.parsing.proofs.patterns.end_placeholder.Goals as goal
 
 pub returns-then-find_name-n : goal.returns-then-find_name-n

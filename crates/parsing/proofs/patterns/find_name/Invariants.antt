@@ -1,17 +1,9 @@
 -- `parsing::patterns::find_name` meets its contract.
-use Rattle.parsing.proofs.PatternLaws.{name-step, name_end}
-use Rattle.parsing.specs.Answers.{name_index, no_placeholder}
-use Rattle.words.specs.Texts.{part, same_text}
-use lib.Seq.{length-take-le, get_or-take}
-use lib.ListN.{take, drop, get_or}
-use native.Mathlib.Nat.{zero-add}
-use borrow.Author.Rules.{rules}
+use Rattle.parsing.specs.Answers.{name_index}
+use lib.ListN.{take, drop}
 use Prim.Native.Nat.{◌-◌}
-use lib.ListN.{length}
-use native.Mathlib.Omega.{arith}
-use Prim.Native.Nat.{◌+◌, ◌<◌, ◌≤◌}
-use mathlib.Core.Bool.{true, false}
-use mathlib.Core.Path.{◌≡◌, sym, ◌∙◌}
+use Prim.Native.Nat.{◌+◌, ◌≤◌}
+use mathlib.Core.Path.{◌≡◌}
 use Rattle.parsing.proofs.patterns.find_name.Given as goal
 
 abbrev pub invariant-loop-i : goal.invariant-loop-i

@@ -3,9 +3,7 @@ use Rattle.parsing.proofs.PatternLaws.{from_named}
 use Rattle.parsing.specs.Reading.{brace, inside}
 use Rattle.parsing.proofs.Laws.{run_end, goes}
 use native.Mathlib.Omega.{arith}
-use Prim.Native.Nat.{◌+◌, ◌<◌, ◌≤◌}
-use mathlib.Core.Path.{◌≡◌, refl, ap, ◌∙◌}
-use borrow.Author.Rules.{rules}
+use mathlib.Core.Path.{refl, ap, ◌∙◌}
 use Rattle.parsing.proofs.patterns.parse_braced.Goals as goal
 
 pub returns-then-words-c : goal.returns-then-words-c

@@ -1,14 +1,11 @@
 -- `parsing::patterns::parse_braces` meets its contract.
 use Rattle.parsing.proofs.PatternLaws.{gathered_none, gathered_more}
-use Rattle.parsing.specs.Placeholders.{Gathered, mores}
-use Rattle.tokens.specs.Tokens.{Along}
+use Rattle.parsing.specs.Placeholders.{mores}
 use lib.ListN.{length-set}
-use Prim.Native.Nat.{◌-◌, ◌*◌}
+use Prim.Native.Nat.{◌-◌}
 use borrow.Author.Rules.{rules}
-use lib.ListN.{length}
 use native.Mathlib.Omega.{arith}
-use Prim.Native.Nat.{◌+◌, ◌<◌, ◌≤◌}
-use mathlib.Core.Path.{◌≡◌, ◌∙◌}
+use mathlib.Core.Path.{◌∙◌}
 use Rattle.std.proofs.Common.{rules}
 use Rattle.parsing.proofs.patterns.parse_braces.Goals as goal
 

@@ -1,14 +1,10 @@
 -- `parsing::patterns::parse_braces` meets its contract.
-use Rattle.parsing.proofs.PatternLaws.{gathered_none, gathered_more}
-use Rattle.parsing.specs.Placeholders.{Gathered, mores}
+use Rattle.parsing.specs.Placeholders.{Gathered}
 use Rattle.tokens.specs.Tokens.{Along}
-use lib.ListN.{length-set}
 use Prim.Native.Nat.{◌-◌, ◌*◌}
-use borrow.Author.Rules.{rules}
 use lib.ListN.{length}
-use native.Mathlib.Omega.{arith}
-use Prim.Native.Nat.{◌+◌, ◌<◌, ◌≤◌}
-use mathlib.Core.Path.{◌≡◌, ◌∙◌}
+use Prim.Native.Nat.{◌+◌, ◌≤◌}
+use mathlib.Core.Path.{◌≡◌}
 use Rattle.parsing.proofs.patterns.parse_braces.Given as goal
 
 abbrev pub invariant-loop-n : goal.invariant-loop-n

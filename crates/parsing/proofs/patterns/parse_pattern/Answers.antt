@@ -3,9 +3,7 @@ use Rattle.parsing.proofs.ListLaws.{read_malformed, number_of_answer}
 use Rattle.errors.specs.Refusals.{outcome_number}
 use Rattle.parsing.specs.Answers.{answer_of}
 use Rattle.parsing.specs.Reading.{reading}
-use Prim.Native.Nat.{◌+◌, ◌<◌, ◌≤◌}
 use mathlib.Core.Path.{◌≡◌, sym, ap, ◌∙◌}
-use borrow.Author.Rules.{rules}
 use Rattle.parsing.proofs.patterns.parse_pattern.Goals as goal
 
 pub parse_list-requires : goal.parse_list-requires

@@ -7,10 +7,8 @@ use Rattle.parsing.proofs.Laws.{follows, behind_at, run_end, goes, stops}
 use Rattle.parsing.specs.Reading.{dollar, brace, is_open_brace, is_ident}
 use borrow.Author.Tests.{eq-eqb, ne_eqb}
 use native.Mathlib.Omega.{arith}
-use Prim.Native.Nat.{◌+◌, ◌<◌, ◌≤◌}
 use mathlib.Core.Bool.{true, false}
 use mathlib.Core.Path.{◌≡◌, refl, ap, ◌∙◌}
-use borrow.Author.Rules.{rules}
 use Rattle.parsing.proofs.patterns.parse_placeholder.Goals as goal
 
 pub returns-then-words-c : goal.returns-then-words-c

@@ -1,16 +1,11 @@
 -- `parsing::patterns::skip_plain` meets its contract.
-use Rattle.parsing.proofs.ListLaws.{passed_none, passed_more}
 use Rattle.parsing.specs.Placeholders.{Passed}
 use Rattle.parsing.specs.Reading.{Element}
 use Rattle.tokens.specs.Tokens.{Along}
 use mathlib.Core.List.{List}
 use Prim.Native.Nat.{◌-◌}
-use borrow.Author.Rules.{rules}
-use borrow.Author.Tests.{eq-eqb, ne_eqb}
 use lib.ListN.{length}
-use native.Mathlib.Omega.{arith}
-use Prim.Native.Nat.{◌+◌, ◌<◌, ◌≤◌}
-use mathlib.Core.Path.{◌≡◌, ap, ◌∙◌}
+use Prim.Native.Nat.{◌≤◌}
 use Rattle.parsing.proofs.patterns.skip_plain.Given as goal
 
 abbrev pub invariant-loop-d : goal.invariant-loop-d

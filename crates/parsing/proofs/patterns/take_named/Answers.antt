@@ -1,10 +1,8 @@
 -- `parsing::patterns::take_named` meets its contract.
 use borrow.Author.Tests.{eq-eqb, ne_eqb}
 use Rattle.parsing.specs.Reading.{is_ident}
-use Prim.Native.Nat.{◌+◌, ◌<◌, ◌≤◌}
 use mathlib.Core.Bool.{true, false}
-use mathlib.Core.Path.{◌≡◌, refl, ◌∙◌}
-use borrow.Author.Rules.{rules}
+use mathlib.Core.Path.{◌≡◌, refl}
 use Rattle.parsing.proofs.patterns.take_named.Goals as goal
 
 pub returns-in-Accepted : goal.returns-in-Accepted

@@ -1,14 +1,7 @@
 -- `paths::names::contains_placeholder` meets its contract.
-use mathlib.Core.Path.{◌≡◌, sym, ◌∙◌}
-use mathlib.Core.Bool.{Bool, true, false}
-use mathlib.Core.List.{List}
-use Prim.Native.Nat.{ℕ}
+use mathlib.Core.Path.{sym, ◌∙◌}
+use mathlib.Core.Bool.{true, false}
 use native.Mathlib.Omega.{arith}
-use lib.ListN.{length}
-use Rattle.parsing.specs.Reading.{Var}
-use Rattle.parsing.specs.Answers.{pattern_of}
-use Rattle.syntax.specs.Trees.{elems}
-use Rattle.paths.specs.Names.{contains_placeholder}
 use Rattle.paths.proofs.NameLaws.{children_lower, climb_end, climb_here, climb_past, climbs_names}
 use Rattle.paths.proofs.names.contains_placeholder.Goals as goal
 

@@ -1,12 +1,10 @@
 -- `paths::names::contains_type_arguments` meets its contract.
-use mathlib.Core.Path.{◌≡◌, sym, ◌∙◌}
-use mathlib.Core.Bool.{Bool, true, false}
+use mathlib.Core.Path.{◌≡◌}
+use mathlib.Core.Bool.{Bool}
 use Prim.Native.Nat.{ℕ}
-use native.Mathlib.Omega.{arith}
 use lib.ListN.{length}
 use Rattle.syntax.specs.Trees.{elems}
 use Rattle.paths.specs.Names.{contains_type_arguments}
-use Rattle.paths.proofs.NameLaws.{children_lower, climb_end, climb_here, climb_past, climbs_arguments}
 use Rattle.paths.proofs.names.contains_type_arguments.Given as goal
 
 abbrev pub invariant-loop-c : goal.invariant-loop-c

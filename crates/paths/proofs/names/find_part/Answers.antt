@@ -4,7 +4,6 @@ use Prim.Native.Nat.{◌+◌, ◌*◌}
 use native.Mathlib.Omega.{arith}
 use lib.ListN.{length-drop}
 use Rattle.syntax.specs.Trees.{elems}
-use borrow.Author.Rules.{rules}
 use Rattle.paths.proofs.names.find_part.Goals as goal
 
 pub returns : goal.returns

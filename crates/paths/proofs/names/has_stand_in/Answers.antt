@@ -10,7 +10,6 @@ use lib.ListN.{length}
 use borrow.Author.Tests.{le-ltb}
 use Rattle.parsing.proofs.PatternLaws.{count_of}
 use Rattle.rust_code.proofs.StandInLaws.{by_none}
-use borrow.Author.Rules.{rules}
 use Rattle.paths.proofs.names.has_stand_in.Goals as goal
 
 pub returns-then-has_stand_in_prefix : goal.returns-then-has_stand_in_prefix

@@ -5,7 +5,6 @@ use Rattle.syntax.specs.Trees.{Elems}
 use Rattle.syntax.specs.Accessors.{some, find_node}
 use Rattle.syntax.proofs.AccessorLaws.{some_is}
 use Rattle.paths.proofs.NameLaws.{children_of}
-use borrow.Author.Rules.{rules}
 use Rattle.paths.proofs.names.has_type_arguments.Goals as goal
 
 pub returns : goal.returns

@@ -5,7 +5,6 @@ use Rattle.syntax.specs.Trees.{Elems}
 use Rattle.syntax.specs.Accessors.{token_in}
 use Rattle.paths.specs.Names.{name_in}
 use Rattle.paths.proofs.NameLaws.{children_of}
-use borrow.Author.Rules.{rules}
 use Rattle.paths.proofs.names.is_self.Goals as goal
 
 pub returns : goal.returns

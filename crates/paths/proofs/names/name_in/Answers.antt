@@ -4,7 +4,6 @@ use Prim.Native.Nat.{◌+◌}
 use Rattle.syntax.specs.Trees.{Elems}
 use Rattle.syntax.specs.Accessors.{find_node, first_token}
 use Rattle.paths.proofs.NameLaws.{children_of}
-use borrow.Author.Rules.{rules}
 use Rattle.paths.proofs.names.name_in.Goals as goal
 
 pub returns : goal.returns

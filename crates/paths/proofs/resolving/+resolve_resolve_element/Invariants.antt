@@ -1,22 +1,14 @@
 -- `paths::resolving::resolve` and `resolve_element` meet their contracts. The measure is twice the part's length, and one more for
-use native.Mathlib.Nat.{le_refl}
-use lib.ListN.{length-set, length}
-use Rattle.facts.proofs.FactLaws.{length_facts}
-use Rattle.paths.proofs.StepLaws.{call_low}
-use mathlib.Core.Path.{◌≡◌, refl, sym, ap, ◌∙◌}
-use mathlib.Core.Bool.{Bool, true, false}
+use lib.ListN.{length}
+use mathlib.Core.Path.{◌≡◌}
+use mathlib.Core.Bool.{Bool}
 use mathlib.Core.List.{List}
-use Prim.Native.Nat.{ℕ, ◌+◌, ◌-◌, ◌*◌, ◌/◌, ◌≤◌, ◌<◌}
-use native.Mathlib.Omega.{arith}
+use Prim.Native.Nat.{ℕ, ◌+◌, ◌-◌, ◌*◌, ◌/◌, ◌≤◌}
 use Rattle.parsing.specs.Reading.{Var}
 use Rattle.parsing.specs.Answers.{pattern_of}
-use Rattle.syntax.specs.Parts.{span}
 use Rattle.syntax.specs.Trees.{elems}
-use Rattle.syntax.proofs.PartLaws.{span_few, length_rest, rest_shorter}
 use Rattle.paths.specs.Steps.{side_of}
 use Rattle.paths.specs.Tables.{AtSiblings}
-use Rattle.paths.proofs.NameLaws.{children_few, children_of}
-use Rattle.paths.proofs.WalkLaws.{first-within, siblings_end, siblings_stop, siblings_then, element-skips, element_fails, element_resolves, element_enters}
 use Rattle.paths.proofs.resolving.+resolve_resolve_element.Given as goal
 
 abbrev pub decreases-resolve : goal.decreases-resolve

@@ -2,7 +2,6 @@
 use mathlib.Core.Path.{sym, ◌∙◌}
 use Rattle.syntax.specs.Trees.{elems}
 use Rattle.paths.proofs.StepLaws.{call_here, call_none}
-use borrow.Author.Rules.{rules}
 use Rattle.paths.proofs.resolving.call_number.Goals as goal
 
 pub returns-then-is_node_in : goal.returns-then-is_node_in

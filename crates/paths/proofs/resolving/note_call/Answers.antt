@@ -7,7 +7,6 @@ use borrow.Author.Tests.{ltb-true}
 use Rattle.words.proofs.TestLaws.{and_both}
 use Rattle.paths.specs.Steps.{is_associated}
 use Rattle.paths.proofs.StepLaws.{claim_noted, claim_none}
-use borrow.Author.Rules.{rules}
 use Rattle.paths.proofs.resolving.note_call.Goals as goal
 
 pub overflow_sub-calls : goal.overflow_sub-calls

@@ -6,7 +6,6 @@ use lib.ListN.{length}
 use lib.Seq.{length-take-le}
 use Rattle.facts.proofs.FactLaws.{length_facts}
 use Rattle.paths.proofs.TableLaws.{tables_more, has_few, has_low, has_index}
-use borrow.Author.Rules.{rules}
 use Rattle.paths.proofs.resolving.resolve_pattern_tree.Goals as goal
 
 pub slice_bounds-make_index-end-2 : goal.slice_bounds-make_index-end-2

@@ -3,7 +3,6 @@ use mathlib.Core.Path.{ap, ◌∙◌}
 use Prim.Native.Nat.{ℕ}
 use lib.ListN.{replicate}
 use Rattle.paths.proofs.TableLaws.{tables_of}
-use borrow.Author.Rules.{rules}
 use Rattle.paths.proofs.resolving.resolve_tree.Goals as goal
 
 pub returns : goal.returns

@@ -5,7 +5,6 @@ use Rattle.paths.specs.Names.{contains_type_arguments}
 use Rattle.paths.specs.Steps.{path_place, by_fact}
 use Rattle.paths.proofs.NameLaws.{children_of}
 use Rattle.paths.proofs.StepLaws.{number_in, step_other, step_self, step_arguments, step_stand_in, step-fact}
-use borrow.Author.Rules.{rules}
 use Rattle.paths.proofs.resolving.step_at.Goals as goal
 
 pub returns-then-is_self : goal.returns-then-is_self

@@ -2,7 +2,6 @@
 use mathlib.Core.Path.{ap, ◌∙◌}
 use Rattle.paths.specs.Steps.{by_fact}
 use Rattle.paths.proofs.StepLaws.{fact_usable, fact-other, fact-none}
-use borrow.Author.Rules.{rules}
 use Rattle.paths.proofs.resolving.step_by_fact.Goals as goal
 
 pub returns-then-value-eq1 : goal.returns-then-value-eq1

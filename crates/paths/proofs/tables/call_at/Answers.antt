@@ -4,7 +4,6 @@ use Prim.Native.Nat.{ℕ}
 use Rattle.paths.specs.Resolved.{call_by}
 use Rattle.facts.specs.declared.CallAt.TheVariants.{TypedCall}
 use Rattle.paths.proofs.TableLaws.{call_is, typed, untyped}
-use borrow.Author.Rules.{rules}
 use Rattle.paths.proofs.tables.call_at.Goals as goal
 
 pub returns-then-noted-eq0 : goal.returns-then-noted-eq0

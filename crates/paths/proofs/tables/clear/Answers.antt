@@ -1,10 +1,10 @@
 -- `paths::tables::clear` meets its contract.
 use mathlib.Core.Path.{◌≡◌, refl, ◌∙◌}
-use mathlib.Core.List.{◌++◌, append-nil}
-use Prim.Native.Nat.{◌≤◌, ◌-◌}
+use mathlib.Core.List.{append-nil}
+use Prim.Native.Nat.{◌-◌}
 use native.Mathlib.Omega.{arith}
 use borrow.Author.Fill.{fill_more}
-use lib.ListN.{length, drop, replicate, length-set, drop_of_length-le}
+use lib.ListN.{length, length-set, drop_of_length-le}
 use Rattle.paths.proofs.tables.clear.Goals as goal
 
 pub loop-i-init : goal.loop-i-init

@@ -3,7 +3,6 @@ use mathlib.Core.Path.{ap, ◌∙◌}
 use Prim.Native.Nat.{ℕ}
 use Rattle.paths.specs.Resolved.{path_by}
 use Rattle.paths.proofs.TableLaws.{path_is}
-use borrow.Author.Rules.{rules}
 use Rattle.paths.proofs.tables.path_at.Goals as goal
 
 pub returns-then-noted-eq0 : goal.returns-then-noted-eq0

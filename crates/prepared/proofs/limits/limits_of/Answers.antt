@@ -1,9 +1,9 @@
 -- `prepared::limits::limits_of` meets its contract.
-use mathlib.Core.Path.{◌≡◌, refl, sym, ◌∙◌}
+use mathlib.Core.Path.{◌≡◌, refl}
 use mathlib.Core.List.{[]}
-use Prim.Native.Nat.{ℕ, ◌-◌}
+use Prim.Native.Nat.{◌-◌}
 use native.Mathlib.Omega.{arith}
-use lib.ListN.{length, length-set, length-map}
+use lib.ListN.{length, length-set}
 use Rattle.parsing.proofs.PatternLaws.{count_of}
 use Rattle.prepared.proofs.LimitLaws.{passed_none, passed_more, limited}
 use Rattle.prepared.proofs.limits.limits_of.Goals.{Start}

@@ -1,8 +1,6 @@
 -- `rules::forms::any` meets its contract.
-use Rattle.rules.proofs.FormLaws.{any_next, any_end}
-use mathlib.Core.Path.{◌≡◌, ◌∙◌, sym, refl}
+use mathlib.Core.Path.{◌≡◌}
 use Prim.Native.Nat.{◌-◌, ◌≤◌}
-use native.Mathlib.Omega.{arith}
 use lib.ListN.{drop}
 use Rattle.rules.specs.Forms.{any}
 use Rattle.rules.proofs.forms.any.Given as goal

@@ -1,12 +1,11 @@
 -- `rules::forms::count` meets its contract.
-use mathlib.Core.Path.{ap, ◌≡◌, sym}
+use mathlib.Core.Path.{ap, sym}
 use native.Mathlib.Nat.{zero-add}
 use Rattle.rules.proofs.FormLaws.{kept-count, kept_end, at_most_one}
 use mathlib.Core.Bool.{false}
-use Prim.Native.Nat.{◌-◌, ◌+◌, ◌≤◌}
+use Prim.Native.Nat.{◌-◌}
 use native.Mathlib.Omega.{arith}
-use lib.ListN.{length, drop, get_or}
-use Rattle.rules.specs.Forms.{kept}
+use lib.ListN.{length, get_or}
 use Rattle.rules.proofs.forms.count.Goals as goal
 
 pub loop-i-init : goal.loop-i-init

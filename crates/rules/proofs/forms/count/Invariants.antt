@@ -1,11 +1,7 @@
 -- `rules::forms::count` meets its contract.
-use mathlib.Core.Path.{ap, ◌≡◌, sym}
-use native.Mathlib.Nat.{zero-add}
-use Rattle.rules.proofs.FormLaws.{kept-count, kept_end, at_most_one}
-use mathlib.Core.Bool.{false}
+use mathlib.Core.Path.{◌≡◌}
 use Prim.Native.Nat.{◌-◌, ◌+◌, ◌≤◌}
-use native.Mathlib.Omega.{arith}
-use lib.ListN.{length, drop, get_or}
+use lib.ListN.{length, drop}
 use Rattle.rules.specs.Forms.{kept}
 use Rattle.rules.proofs.forms.count.Given as goal
 

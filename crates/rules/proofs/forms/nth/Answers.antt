@@ -1,5 +1,5 @@
 -- `rules::forms::nth` meets its contract.
-use Prim.Native.Nat.{ℕ, ◌-◌, ◌+◌, ◌≤◌, ◌<◌}
+use Prim.Native.Nat.{ℕ, ◌-◌, ◌+◌, ◌<◌}
 use Rattle.rules.proofs.FormLaws.{kept-last, kept_here, kept-count, kept_further, at_most_one, not_reached, still_within}
 use Rattle.words.proofs.TestLaws.{and_both}
 use lib.Dec.{eqb}

@@ -1,12 +1,6 @@
 -- `rules::forms::nth` meets its contract.
-use Prim.Native.Nat.{ℕ, ◌-◌, ◌+◌, ◌≤◌, ◌<◌}
-use Rattle.rules.proofs.FormLaws.{kept-last, kept_here, kept-count, kept_further, at_most_one, not_reached, still_within}
-use Rattle.words.proofs.TestLaws.{and_both}
-use lib.Dec.{eqb}
-use borrow.Author.Tests.{eqb-true}
-use mathlib.Core.Bool.{cond, false}
-use mathlib.Core.Path.{ap, ◌≡◌, ◌∙◌, sym}
-use native.Mathlib.Omega.{arith}
+use Prim.Native.Nat.{◌-◌, ◌≤◌, ◌<◌}
+use mathlib.Core.Path.{◌≡◌}
 use lib.ListN.{length, drop, get_or}
 use Rattle.rules.specs.Forms.{kept}
 use Rattle.rules.proofs.forms.nth.Given as goal

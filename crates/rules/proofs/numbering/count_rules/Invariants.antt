@@ -1,16 +1,10 @@
 -- `rules::numbering::count_rules` meets its contract.
-use mathlib.Core.Bool.{Bool}
-use mathlib.Core.List.{List}
-use Prim.Native.Nat.{ℕ, ◌-◌, ◌+◌, ◌*◌, ◌≤◌}
-use native.Mathlib.Nat.{add-zero, add_assoc, zero-add}
-use mathlib.Core.Path.{◌≡◌, ◌∙◌, sym, ap}
-use native.Mathlib.Omega.{arith}
+use Prim.Native.Nat.{◌-◌, ◌+◌, ◌*◌, ◌≤◌}
+use mathlib.Core.Path.{◌≡◌}
 use lib.ListN.{length}
 use Rattle.fragments.specs.Directory.{row_count}
 use Rattle.fragments.specs.Pairs.{pairs_of, pairs}
-use Rattle.rules.specs.Forms.{kept}
 use Rattle.rules.specs.Numbering.{rules}
-use Rattle.rules.proofs.RuleLaws.{rules_end, count_next}
 use Rattle.rules.proofs.numbering.count_rules.Given as goal
 
 abbrev pub invariant-loop-n : goal.invariant-loop-n

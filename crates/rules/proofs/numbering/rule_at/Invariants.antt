@@ -1,15 +1,8 @@
 -- `rules::numbering::rule_at` meets its contract.
-use lib.ListN.{get_or, length}
-use mathlib.Core.Bool.{Bool}
-use mathlib.Core.List.{List}
-use Prim.Native.Nat.{ℕ, ◌-◌, ◌+◌, ◌≤◌}
-use mathlib.Core.Path.{◌≡◌, ◌∙◌, sym, ap}
-use native.Mathlib.Omega.{arith}
-use Rattle.fragments.specs.Directory.{row_count}
+use Prim.Native.Nat.{◌-◌, ◌≤◌}
+use mathlib.Core.Path.{◌≡◌}
 use Rattle.fragments.specs.Pairs.{pairs_of, pairs}
-use Rattle.rules.specs.Forms.{kept}
 use Rattle.rules.specs.Numbering.{rules, rules_from, rule_at}
-use Rattle.rules.proofs.RuleLaws.{at_first, at-later, at_none}
 use Rattle.rules.proofs.numbering.rule_at.Given as goal
 
 abbrev pub invariant-loop-pair : goal.invariant-loop-pair

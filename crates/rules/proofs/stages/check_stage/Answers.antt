@@ -2,10 +2,7 @@
 use mathlib.Core.Path.{◌≡◌, ◌∙◌, sym, refl}
 use Prim.Native.Nat.{◌-◌}
 use native.Mathlib.Omega.{arith}
-use Rattle.errors.specs.Refusals.{lowest_of}
 use Rattle.errors.proofs.Laws.{lowest-accepted}
-use Rattle.fragments.specs.Pairs.{pairs_of, pairs}
-use Rattle.rules.specs.Stages.{stage_outcome}
 use Rattle.rules.proofs.StageLaws.{stage_end, stage-next}
 use Rattle.rules.proofs.stages.check_stage.Goals as goal
 

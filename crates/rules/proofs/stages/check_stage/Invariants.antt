@@ -1,12 +1,9 @@
 -- `rules::stages::check_stage` meets its contract.
-use mathlib.Core.Path.{◌≡◌, ◌∙◌, sym, refl}
+use mathlib.Core.Path.{◌≡◌}
 use Prim.Native.Nat.{◌-◌}
-use native.Mathlib.Omega.{arith}
 use Rattle.errors.specs.Refusals.{lowest_of}
-use Rattle.errors.proofs.Laws.{lowest-accepted}
 use Rattle.fragments.specs.Pairs.{pairs_of, pairs}
 use Rattle.rules.specs.Stages.{stage_outcome}
-use Rattle.rules.proofs.StageLaws.{stage_end, stage-next}
 use Rattle.rules.proofs.stages.check_stage.Given as goal
 
 abbrev pub invariant-loop-n : goal.invariant-loop-n

@@ -5,7 +5,6 @@ use Rattle.words.specs.Texts.{has_prefix}
 use lib.ListN.{drop}
 use mathlib.Core.Bool.{true, false}
 use mathlib.Core.Path.{◌≡◌, sym, ◌∙◌}
-use borrow.Author.Rules.{rules}
 use Rattle.rust_code.proofs.tree_text.eat.Goals as goal
 
 pub returns-then-starts_with : goal.returns-then-starts_with

@@ -4,8 +4,6 @@ use Rattle.rust_code.specs.Trim.{Eats}
 use Rattle.rust_code.specs.declared.tree_text.Eaten.TheVariants.{At, Differs}
 use Rattle.words.specs.Texts.{part, stand_in_prefix}
 use mathlib.Core.List.{◌++◌}
-use mathlib.Core.Path.{◌≡◌, ◌∙◌}
-use borrow.Author.Rules.{rules}
 use Rattle.rust_code.proofs.tree_text.eat_placeholder.Goals as goal
 
 pub returns-in_default : goal.returns-in_default

@@ -1,17 +1,16 @@
 -- `rust_code::tree_text::is_segments` meets its contract.
 use borrow.Author.Rules.{rules}
-use Prim.Native.Nat.{◌+◌, ◌-◌, ◌<◌, ◌≤◌}
+use Prim.Native.Nat.{◌-◌}
 use native.Mathlib.Omega.{arith}
-use Rattle.rust_code.proofs.EatLaws.{left_same, left-more, left_differs, left_end}
+use Rattle.rust_code.proofs.EatLaws.{left-more, left_differs, left_end}
 use Rattle.rust_code.specs.Trim.{Eats}
-use Rattle.rust_code.specs.Segments.{segment, segments}
+use Rattle.rust_code.specs.Segments.{segment}
 use Rattle.rust_code.specs.declared.tree_text.Eaten.TheVariants.{At, Differs}
 use Rattle.parsing.specs.Answers.{no_placeholder}
 use Rattle.words.proofs.TextLaws.{part-rest}
 use Rattle.words.specs.Texts.{part, same_text}
 use lib.Seq.{length-take-le, get_or-take}
 use lib.ListN.{length, take, get_or, drop}
-use mathlib.Core.List.{◌++◌}
 use mathlib.Core.Path.{◌≡◌, refl, sym, ◌∙◌}
 use Rattle.std.proofs.Common.{rules}
 use Rattle.rust_code.proofs.tree_text.is_segments.Goals as goal

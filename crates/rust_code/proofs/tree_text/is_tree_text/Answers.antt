@@ -9,7 +9,6 @@ use Rattle.tokens.proofs.Laws.{list_few, list_fills}
 use lib.ListN.{take}
 use mathlib.Core.List.{[]}
 use mathlib.Core.Path.{◌≡◌, sym, ap, ◌∙◌}
-use borrow.Author.Rules.{rules}
 use Rattle.rust_code.proofs.tree_text.is_tree_text.Goals as goal
 
 pub skip_spaces-a-requires : goal.skip_spaces-a-requires

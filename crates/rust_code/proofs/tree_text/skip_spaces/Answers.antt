@@ -1,12 +1,10 @@
 -- `rust_code::tree_text::skip_spaces` meets its contract.
 use Rattle.rust_code.proofs.TrimLaws.{total-none, total-take, spaces_take}
 use borrow.Author.Rules.{rules}
-use Prim.Native.Nat.{◌+◌, ◌-◌, ◌<◌, ◌≤◌}
+use Prim.Native.Nat.{◌-◌}
 use native.Mathlib.Omega.{arith}
-use Rattle.rust_code.specs.Trim.{Spaces}
-use Rattle.tokens.specs.Tokens.{Along, total_length}
 use Rattle.words.specs.Fields.{token_kind}
-use lib.ListN.{length, take, drop}
+use lib.ListN.{drop}
 use mathlib.Core.Path.{◌≡◌, sym, ap, ◌∙◌}
 use Rattle.std.proofs.Common.{rules}
 use Rattle.rust_code.proofs.tree_text.skip_spaces.Goals as goal

@@ -1,13 +1,9 @@
 -- `rust_code::tree_text::skip_spaces` meets its contract.
-use Rattle.rust_code.proofs.TrimLaws.{total-none, total-take, spaces_take}
-use borrow.Author.Rules.{rules}
-use Prim.Native.Nat.{◌+◌, ◌-◌, ◌<◌, ◌≤◌}
-use native.Mathlib.Omega.{arith}
+use Prim.Native.Nat.{◌-◌}
 use Rattle.rust_code.specs.Trim.{Spaces}
 use Rattle.tokens.specs.Tokens.{Along, total_length}
-use Rattle.words.specs.Fields.{token_kind}
-use lib.ListN.{length, take, drop}
-use mathlib.Core.Path.{◌≡◌, sym, ap, ◌∙◌}
+use lib.ListN.{length, take}
+use mathlib.Core.Path.{◌≡◌}
 use Rattle.rust_code.proofs.tree_text.skip_spaces.Given as goal
 
 abbrev pub invariant-loop-d : goal.invariant-loop-d

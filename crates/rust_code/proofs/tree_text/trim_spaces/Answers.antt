@@ -1,13 +1,11 @@
 -- `rust_code::tree_text::trim_spaces` meets its contract.
 use Rattle.rust_code.proofs.TrimLaws.{spaces_end, total_back, spaces_back}
-use borrow.Author.Rules.{rules}
-use Prim.Native.Nat.{◌+◌, ◌-◌, ◌<◌, ◌≤◌}
+use Prim.Native.Nat.{◌-◌}
 use native.Mathlib.Omega.{arith}
-use Rattle.rust_code.specs.Trim.{Spaces}
 use Rattle.tokens.specs.Tokens.{total_length}
 use Rattle.words.specs.Fields.{token_kind, token_length}
 use lib.Seq.{take_all}
-use lib.ListN.{length, take, drop}
+use lib.ListN.{length, drop}
 use mathlib.Core.Path.{◌≡◌, sym, ap, ◌∙◌}
 use Rattle.rust_code.proofs.tree_text.trim_spaces.Goals as goal
 

@@ -1,15 +1,12 @@
 -- `syntax::accessors::contains` meets its contract.
-use mathlib.Core.Path.{◌≡◌, sym, ap, ◌∙◌}
-use mathlib.Core.Bool.{Bool, true, false}
+use mathlib.Core.Path.{sym, ap, ◌∙◌}
+use mathlib.Core.Bool.{true, false}
 use lib.ListN.{length}
 use native.Mathlib.Omega.{arith}
-use Prim.Native.Nat.{◌+◌, ◌≤◌}
+use Prim.Native.Nat.{◌+◌}
 use Rattle.syntax.specs.Parts.{span}
-use Rattle.syntax.specs.Trees.{elems}
-use Rattle.syntax.specs.Accessors.{has_element}
 use Rattle.syntax.proofs.PartLaws.{rest_shorter, children_shorter}
 use Rattle.syntax.proofs.AccessorLaws.{has-next, has_end}
-use Prim.Native.Nat.{ℕ, ◌<◌}
 use Rattle.syntax.proofs.accessors.+contains.Goals as goal
 
 pub loop-c-init : goal.loop-c-init

@@ -1,15 +1,11 @@
 -- `syntax::accessors::contains` meets its contract.
-use mathlib.Core.Path.{◌≡◌, sym, ap, ◌∙◌}
-use mathlib.Core.Bool.{Bool, true, false}
+use mathlib.Core.Path.{◌≡◌}
+use mathlib.Core.Bool.{Bool}
 use lib.ListN.{length}
-use native.Mathlib.Omega.{arith}
-use Prim.Native.Nat.{◌+◌, ◌≤◌}
-use Rattle.syntax.specs.Parts.{span}
+use Prim.Native.Nat.{◌≤◌}
 use Rattle.syntax.specs.Trees.{elems}
 use Rattle.syntax.specs.Accessors.{has_element}
-use Rattle.syntax.proofs.PartLaws.{rest_shorter, children_shorter}
-use Rattle.syntax.proofs.AccessorLaws.{has-next, has_end}
-use Prim.Native.Nat.{ℕ, ◌<◌}
+use Prim.Native.Nat.{ℕ}
 use Rattle.syntax.proofs.accessors.+contains.Given as goal
 
 abbrev pub decreases-contains : goal.decreases-contains

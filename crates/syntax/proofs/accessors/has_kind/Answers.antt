@@ -1,5 +1,5 @@
 -- `syntax::accessors::has_kind` meets its contract.
-use mathlib.Core.Path.{◌≡◌, ◌∙◌, sym}
+use mathlib.Core.Path.{◌∙◌, sym}
 use borrow.Author.Rules.{rules}
 use Rattle.std.proofs.Common.{rules}
 use Rattle.syntax.proofs.accessors.has_kind.Goals as goal

@@ -1,8 +1,5 @@
 -- `syntax::accessors::is_node_at` meets its contract.
-use mathlib.Core.Path.{sym, ap, ◌∙◌}
-use native.Mathlib.Omega.{arith}
-use Rattle.syntax.specs.Trees.{elems}
-use Rattle.syntax.specs.Accessors.{node_in}
+use mathlib.Core.Path.{sym, ◌∙◌}
 use Rattle.syntax.proofs.Places.{node_at_lem}
 use borrow.Author.Rules.{rules}
 use Rattle.std.proofs.Common.{rules}

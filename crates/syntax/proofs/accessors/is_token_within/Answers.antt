@@ -1,5 +1,5 @@
 -- `syntax::accessors::is_token_within` meets its contract.
-use mathlib.Core.Path.{sym, ap, ◌∙◌}
+use mathlib.Core.Path.{sym, ◌∙◌}
 use Prim.Native.Nat.{◌*◌, ◌+◌}
 use lib.ListN.{drop}
 use lib.Dec.{ltb}

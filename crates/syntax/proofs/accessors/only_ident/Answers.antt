@@ -1,13 +1,10 @@
 -- `syntax::accessors::only_ident` meets its contract.
-use mathlib.Core.Path.{◌≡◌, refl, sym, ap, ◌∙◌}
+use mathlib.Core.Path.{refl, sym, ap, ◌∙◌}
 use mathlib.Core.List.{[]}
-use Prim.Native.Nat.{ℕ, ◌+◌}
+use Prim.Native.Nat.{◌+◌}
 use lib.ListN.{length}
-use lib.Dec.{leb}
 use native.Mathlib.Omega.{arith}
 use borrow.Author.Tests.{le-leb, lt-leb}
-use Rattle.syntax.specs.Trees.{elems}
-use Rattle.syntax.specs.Accessors.{only_ident}
 use Rattle.syntax.proofs.PartLaws.{children_shorter}
 use Rattle.syntax.proofs.TreeLaws.{elems_end}
 use Rattle.syntax.proofs.AccessorLaws.{ident_end, ident_here, ident_other, ident_below, ident_many}

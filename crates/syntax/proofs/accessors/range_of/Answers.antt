@@ -1,6 +1,4 @@
 -- `syntax::accessors::range_of` meets its contract.
-use mathlib.Core.Path.{sym, ◌∙◌}
-use Rattle.syntax.specs.Accessors.{range_of}
 use Rattle.syntax.proofs.TreeLaws.{elems_end}
 use Rattle.syntax.proofs.AccessorLaws.{range_is}
 use borrow.Author.Rules.{rules}

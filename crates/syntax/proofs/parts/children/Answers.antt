@@ -1,5 +1,5 @@
 -- `syntax::parts::children` meets its contract.
-use mathlib.Core.Path.{sym, ap, ◌∙◌}
+use mathlib.Core.Path.{sym, ◌∙◌}
 use lib.ListN.{drop, length-drop}
 use lib.Seq.{take_all}
 use Rattle.syntax.specs.Parts.{span}

@@ -1,6 +1,5 @@
 -- `templates::codes::hole_piece` meets its contract.
 use native.Mathlib.Omega.{arith}
-use borrow.Author.Rules.{rules}
 use Rattle.templates.proofs.codes.hole_piece.Goals as goal
 
 pub returns-then-receives : goal.returns-then-receives

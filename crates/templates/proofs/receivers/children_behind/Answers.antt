@@ -1,5 +1,4 @@
 -- `templates::receivers::children_behind` meets its contract.
-use borrow.Author.Rules.{rules}
 use Rattle.templates.proofs.receivers.children_behind.Goals as goal
 
 pub returns : goal.returns

@@ -1,5 +1,4 @@
 -- `templates::receivers::lone_token` meets its contract.
-use borrow.Author.Rules.{rules}
 use Rattle.templates.proofs.receivers.lone_token.Goals as goal
 
 pub returns-then-is_token : goal.returns-then-is_token

@@ -1,14 +1,11 @@
 -- `templates::receivers::only_token` meets its contract. The lone token of what is left behind the one that was met is that of the part.
-use mathlib.Core.Path.{◌≡◌, sym, ap, ◌∙◌}
+use mathlib.Core.Path.{◌≡◌}
 use Prim.Native.Nat.{◌+◌, ◌/◌, ◌≤◌}
-use native.Mathlib.Omega.{arith}
-use lib.ListN.{length, length-drop}
-use borrow.Author.Tests.{ltb-true}
-use Rattle.words.proofs.TestLaws.{and_both}
+use lib.ListN.{length}
 use Rattle.syntax.specs.Trees.{elems}
 use Rattle.templates.specs.Pieces.{tokens_of}
 use Rattle.templates.specs.Rendering.{only_of}
-use Rattle.templates.proofs.TokenLaws.{tokens_in, only_after, only_start, only_end, only_second, only_next}
+use Rattle.templates.proofs.TokenLaws.{tokens_in, only_after}
 use Rattle.templates.proofs.receivers.only_token.Given as goal
 
 abbrev pub invariant-loop-c : goal.invariant-loop-c

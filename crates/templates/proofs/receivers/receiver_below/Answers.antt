@@ -11,7 +11,6 @@ use Rattle.syntax.proofs.AccessorLaws.{children_are}
 use Rattle.paths.proofs.NameLaws.{children_few}
 use Rattle.templates.proofs.TokenLaws.{found_tokens}
 use Rattle.templates.proofs.RenderLaws.{found-children, found_few}
-use borrow.Author.Rules.{rules}
 use Rattle.templates.proofs.receivers.receiver_below.Goals as goal
 
 pub children_behind-requires : goal.children_behind-requires

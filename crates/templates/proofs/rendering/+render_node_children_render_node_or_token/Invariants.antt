@@ -1,22 +1,13 @@
 -- `templates::rendering::render_node_children` and `render_node_or_token` meet their contracts. The measure is twice the part's length, and
-use mathlib.Core.Path.{◌≡◌, refl, sym, ap, ◌∙◌}
-use mathlib.Core.Bool.{Bool, ◌&&◌}
+use mathlib.Core.Path.{◌≡◌}
 use mathlib.Core.List.{List}
-use Prim.Native.Nat.{ℕ, ◌+◌, ◌-◌, ◌*◌, ◌/◌, ◌≤◌, ◌<◌}
-use native.Mathlib.Nat.{le_refl}
-use native.Mathlib.Omega.{arith}
-use lib.ListN.{length, length-set}
-use Rattle.words.specs.Fields.{syntax_kind}
+use Prim.Native.Nat.{ℕ, ◌+◌, ◌-◌, ◌*◌, ◌/◌, ◌≤◌}
+use lib.ListN.{length}
 use Rattle.parsing.specs.Reading.{Var}
 use Rattle.parsing.specs.Answers.{pattern_of}
-use Rattle.syntax.specs.Parts.{span}
 use Rattle.syntax.specs.Trees.{elems}
-use Rattle.syntax.specs.Accessors.{children}
-use Rattle.syntax.proofs.PartLaws.{span_pos, span_few, length_rest, rest_shorter}
-use Rattle.paths.proofs.NameLaws.{children_few}
-use Rattle.templates.specs.Pieces.{receiver_below, render}
+use Rattle.templates.specs.Pieces.{render}
 use Rattle.templates.specs.Rendering.{only_of, template_by, mode_of, Lays, Room}
-use Rattle.templates.proofs.RenderLaws.{children-span, found-children, found_few, lays_name, lays_token, lays_path, lays_below, first-within, below-within, rest-within, siblings_end, siblings_then}
 use Rattle.templates.proofs.rendering.+render_node_children_render_node_or_token.Given as goal
 
 abbrev pub decreases-render_node_children : goal.decreases-render_node_children

@@ -1,6 +1,5 @@
 -- `templates::rendering::is_rendered` meets its contract.
 use Rattle.templates.proofs.RenderLaws.{noted-path}
-use borrow.Author.Rules.{rules}
 use Rattle.templates.proofs.rendering.is_rendered.Goals as goal
 
 pub returns-then-noted-eq0 : goal.returns-then-noted-eq0

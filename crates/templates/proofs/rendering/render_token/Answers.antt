@@ -11,7 +11,6 @@ use Rattle.templates.specs.Pieces.{code_of}
 use Rattle.templates.specs.Rendering.{template_by}
 use Rattle.templates.proofs.TokenLaws.{receiver_is}
 use Rattle.templates.proofs.RenderLaws.{token-hole, token-none, token-other}
-use borrow.Author.Rules.{rules}
 use Rattle.templates.proofs.rendering.render_token.Goals as goal
 
 pub returns-then-slot-pattern : goal.returns-then-slot-pattern

@@ -3,7 +3,6 @@ use mathlib.Core.Path.{refl}
 use mathlib.Core.List.{[]}
 use native.Mathlib.Omega.{arith}
 use Rattle.templates.proofs.PieceLaws.{pieces_by}
-use borrow.Author.Rules.{rules}
 use Rattle.templates.proofs.rendering.template_pieces.Goals as goal
 
 pub returns : goal.returns

@@ -2,7 +2,6 @@
 use mathlib.Core.Path.{refl, sym, ◌∙◌}
 use Rattle.syntax.specs.Trees.{elems}
 use Rattle.token_trees.proofs.TokenTreeLaws.{comment-noted, comment-none}
-use borrow.Author.Rules.{rules}
 use Rattle.token_trees.proofs.comments.record_ignored_comments.Goals as goal
 
 pub returns-then-is_token_in : goal.returns-then-is_token_in

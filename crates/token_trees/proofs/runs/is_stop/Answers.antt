@@ -2,7 +2,6 @@
 use mathlib.Core.Path.{◌∙◌}
 use Rattle.syntax.specs.Trees.{elems}
 use Rattle.token_trees.proofs.RunLaws.{stop-none, stop-some}
-use borrow.Author.Rules.{rules}
 use Rattle.token_trees.proofs.runs.is_stop.Goals as goal
 
 pub returns-then-stop-first : goal.returns-then-stop-first

@@ -3,13 +3,13 @@ use mathlib.Core.Path.{◌≡◌, sym, ap, ◌∙◌}
 use mathlib.Core.Bool.{true, false}
 use Prim.Native.Nat.{ℕ, ◌+◌, ◌*◌}
 use native.Mathlib.Omega.{arith}
-use lib.ListN.{length, drop}
+use lib.ListN.{drop}
 use Rattle.syntax.specs.Trees.{Elems, elems}
 use Rattle.syntax.specs.Accessors.{rest}
 use Rattle.siblings.specs.Siblings.{skip_trivia}
 use Rattle.matcher.proofs.TokenLaws.{pass_none}
 use Rattle.token_trees.specs.Runs.{stop_of, is_stop, run_from}
-use Rattle.token_trees.proofs.RunLaws.{stop_tells, run_end, run_stops, run_uses, run_goes, used_up, Left, left_start, left_few, left-again, left_is}
+use Rattle.token_trees.proofs.RunLaws.{stop_tells, run_end, run_stops, run_uses, run_goes, used_up, left_start, left_few, left-again, left_is}
 use Rattle.token_trees.proofs.runs.run_from.Goals as goal
 use Rattle.token_trees.proofs.runs.run_from.Goals.{then-is_stop+else-is_tree-is_node_in, else-is_stop}
 

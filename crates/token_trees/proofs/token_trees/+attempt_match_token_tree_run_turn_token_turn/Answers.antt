@@ -1,16 +1,14 @@
 -- `token_trees::token_trees::attempt_match_token_tree`, `run_turn` and `token_turn` meet their contracts. The measure is three times the
 use mathlib.Core.Path.{◌≡◌, refl, sym, ap, ◌∙◌}
 use mathlib.Core.List.{List}
-use Prim.Native.Nat.{ℕ, ◌+◌, ◌*◌, ◌≤◌, ◌<◌}
+use Prim.Native.Nat.{ℕ, ◌+◌, ◌*◌, ◌≤◌}
 use native.Mathlib.Omega.{arith}
 use lib.ListN.{length}
 use Rattle.syntax.specs.Trees.{elems}
 use Rattle.siblings.proofs.SiblingLaws.{some_node, long_some}
-use Rattle.captures.specs.declared.Answer.{Answer}
 use Rattle.captures.specs.Effects.{no_match}
 use Rattle.matcher.specs.Matcher.{matcher_of}
 use Rattle.token_trees.specs.declared.runs.Run as declared
-use Rattle.token_trees.specs.TokenTrees.{TokensGive}
 use Rattle.token_trees.proofs.RunLaws.{Reach, reach, reach_long}
 use Rattle.token_trees.proofs.TokenTreeLaws.{tree_gives, tokens_done, tokens_left, steps_on, steps_none, Next, turn_run, turn_run_stops, turn_trivia, turn_token, turn_token_stops, turn_node, turn_node_stops, turn_other_stops, reach-tree, reach_fails, reach-stop, reach_end}
 use Rattle.token_trees.proofs.token_trees.+attempt_match_token_tree_run_turn_token_turn.Goals.{run_turn-After-slot_at-slot, token_turn-After-behind-y}

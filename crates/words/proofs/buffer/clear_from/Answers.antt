@@ -1,6 +1,5 @@
 -- `words::buffer::clear_from` meets its contract.
 use Rattle.words.proofs.BufferLaws.{cleared_tail, cleared-none}
-use borrow.Author.Rules.{rules}
 use Rattle.words.proofs.buffer.clear_from.Goals as goal
 
 pub returns-then-at-out : goal.returns-then-at-out

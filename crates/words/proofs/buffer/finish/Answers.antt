@@ -4,7 +4,6 @@ use lib.ListN.{length, take}
 use lib.Seq.{length-take-le}
 use Rattle.words.specs.Buffer.{used_of}
 use Rattle.words.proofs.BufferLaws.{used_within, ending}
-use borrow.Author.Rules.{rules}
 use Rattle.words.proofs.buffer.finish.Goals as goal
 
 pub slice_bounds-clear_from-end : goal.slice_bounds-clear_from-end

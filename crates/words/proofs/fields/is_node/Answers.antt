@@ -1,5 +1,4 @@
 -- `words::fields::is_node` meets its contract.
-use borrow.Author.Rules.{rules}
 use Rattle.words.proofs.fields.is_node.Goals as goal
 
 pub returns : goal.returns

@@ -1,7 +1,6 @@
 -- `words::fields::part_of` meets its contract.
 use mathlib.Core.Path.{sym}
 use Rattle.words.proofs.TextLaws.{part_in, part_reversed, part_outside}
-use borrow.Author.Rules.{rules}
 use Rattle.words.proofs.fields.part_of.Goals as goal
 
 pub returns-then-end-start : goal.returns-then-end-start

@@ -1,7 +1,6 @@
 -- `words::fields::word` meets its contract: past the end, `get_or` gives its default.
 use mathlib.Core.Path.{sym}
 use lib.ListN.{get_or-eq_default}
-use borrow.Author.Rules.{rules}
 use Rattle.words.proofs.fields.word.Goals as goal
 
 pub returns : goal.returns

@@ -1,12 +1,9 @@
 -- `words::texts::same_text` meets its contract.
 use borrow.Author.Rules.{rules}
-use mathlib.Core.Path.{◌≡◌, refl, sym, ◌∙◌}
-use mathlib.Core.List.{◌++◌}
-use Prim.Native.Nat.{◌≤◌, ◌-◌, ◌+◌}
+use mathlib.Core.Path.{refl, sym, ◌∙◌}
+use Prim.Native.Nat.{◌-◌}
 use native.Mathlib.Omega.{arith}
 use borrow.Author.Tests.{ne_eqb, eq-eqb}
-use lib.ListN.{length, drop}
-use Rattle.words.specs.Texts.{same_text}
 use Rattle.words.proofs.TextLaws.{same_step, same_end, same_lengths}
 use Rattle.std.proofs.Common.{rules}
 use Rattle.words.proofs.texts.same_text.Goals as goal

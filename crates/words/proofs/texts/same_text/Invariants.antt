@@ -1,13 +1,8 @@
 -- `words::texts::same_text` meets its contract.
-use borrow.Author.Rules.{rules}
-use mathlib.Core.Path.{◌≡◌, refl, sym, ◌∙◌}
-use mathlib.Core.List.{◌++◌}
-use Prim.Native.Nat.{◌≤◌, ◌-◌, ◌+◌}
-use native.Mathlib.Omega.{arith}
-use borrow.Author.Tests.{ne_eqb, eq-eqb}
+use mathlib.Core.Path.{◌≡◌}
+use Prim.Native.Nat.{◌≤◌, ◌-◌}
 use lib.ListN.{length, drop}
 use Rattle.words.specs.Texts.{same_text}
-use Rattle.words.proofs.TextLaws.{same_step, same_end, same_lengths}
 use Rattle.words.proofs.texts.same_text.Given as goal
 
 abbrev pub invariant-loop-i : goal.invariant-loop-i

@@ -2,7 +2,6 @@
 use mathlib.Core.Path.{sym}
 use lib.Seq.{length-take-le}
 use Rattle.words.proofs.TextLaws.{prefix_short}
-use borrow.Author.Rules.{rules}
 use Rattle.words.proofs.texts.starts_with.Goals as goal
 
 pub returns-then-t-n : goal.returns-then-t-n

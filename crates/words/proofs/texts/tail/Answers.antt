@@ -4,7 +4,6 @@ use native.Mathlib.Omega.{arith}
 use Prim.Native.Nat.{◌-◌}
 use lib.ListN.{length, drop, length-drop, drop_of_length-le}
 use lib.Seq.{take_all}
-use borrow.Author.Rules.{rules}
 use Rattle.words.proofs.texts.tail.Goals as goal
 
 pub returns-then-start-t : goal.returns-then-start-t

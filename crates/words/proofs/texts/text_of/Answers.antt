@@ -1,6 +1,5 @@
 -- `words::texts::text_of` meets its contract.
 use mathlib.Core.Path.{◌∙◌}
-use borrow.Author.Rules.{rules}
 use Rattle.words.proofs.texts.text_of.Goals as goal
 
 pub returns-in-File : goal.returns-in-File
