@@ -1,7 +1,8 @@
 // The limits of trees and facts, and the two shapes that a stack could fail on: for each what it is, and the number that it gets.
 #![tactic(auto)]
-use libc::STDOUT_FILENO;
+
 use ssr::{ssr_check_file, ssr_check_rule_tree};
+use std::io;
 use std::num::{wrapping_add_u32, wrapping_sub_u32, wrapping_sub_usize};
 use words::texts;
 
@@ -178,57 +179,62 @@ fn path_text(length: u32) -> u32 {
     ssr_check_rule_tree(1, &list, b"x", 1, &tree, b"x", &fact, b"text")
 }
 
-fn say(what: &[u8], number: u32) {
-    io::write_all(STDOUT_FILENO, what);
-    io::write_all(STDOUT_FILENO, b": ");
-    io::print_decimal(STDOUT_FILENO, number as u64);
-    io::write_all(STDOUT_FILENO, b"\n");
+fn say(rt: &impl Print, what: &[u8], number: u32) -> io::Result<()> {
+    rt.write_all(what)?;
+    println!(rt; ": {number}")
 }
 
-fn sizes() {
-    say(b"16383 elements", wide(16383, 49149, 16382));
-    say(b"one word more", wide(16383, 49150, 16382));
-    say(b"16384 elements", wide(16384, 49152, 16383));
-    say(b"65535 bytes", long(65535));
-    say(b"65536 bytes", long(65536));
-    say(b"no words", wide(0, 0, 0));
+fn sizes(rt: &impl Print) -> io::Result<()> {
+    say(rt, b"16383 elements", wide(16383, 49149, 16382))?;
+    say(rt, b"one word more", wide(16383, 49150, 16382))?;
+    say(rt, b"16384 elements", wide(16384, 49152, 16383))?;
+    say(rt, b"65535 bytes", long(65535))?;
+    say(rt, b"65536 bytes", long(65536))?;
+    say(rt, b"no words", wide(0, 0, 0))
 }
 
-fn depths() {
-    say(b"128 nodes deep", deep(128, 384, 384, 0));
-    say(b"129 nodes deep", deep(129, 387, 387, 0));
-    say(b"a token at 128", deep_token(128, 384));
-    say(b"a token at 129", deep_token(129, 387));
-    say(b"16383 nodes deep", deep(16383, 49149, 49149, 0));
-    say(b"the last bent", deep(16383, 49149, 49148, 0x4000_0001));
-    say(b"16382 nodes side by side", flat(49149, 0));
-    say(b"the last bent", flat(49146, 0x1040_0002));
+fn depths(rt: &impl Print) -> io::Result<()> {
+    say(rt, b"128 nodes deep", deep(128, 384, 384, 0))?;
+    say(rt, b"129 nodes deep", deep(129, 387, 387, 0))?;
+    say(rt, b"a token at 128", deep_token(128, 384))?;
+    say(rt, b"a token at 129", deep_token(129, 387))?;
+    say(rt, b"16383 nodes deep", deep(16383, 49149, 49149, 0))?;
+    say(rt, b"the last bent", deep(16383, 49149, 49148, 0x4000_0001))?;
+    say(rt, b"16382 nodes side by side", flat(49149, 0))?;
+    say(rt, b"the last bent", flat(49146, 0x1040_0002))
 }
 
-fn file_lists() {
+fn file_lists(rt: &impl Print) -> io::Result<()> {
     say(
+        rt,
         b"16383 facts",
         file_facts(16383, 0x9600_0000, 1, 1, 0, 65532),
-    );
+    )?;
     say(
+        rt,
         b"16384 facts",
         file_facts(16384, 0x9600_0000, 1, 1, 0, 65536),
-    );
-    say(b"three words", file_facts(1, 0x9600_0000, 0, 1, 0, 3));
-    say(b"a fact repeated", file_facts(2, 0x9600_0001, 0, 1, 0, 8));
+    )?;
+    say(rt, b"three words", file_facts(1, 0x9600_0000, 0, 1, 0, 3))?;
     say(
+        rt,
+        b"a fact repeated",
+        file_facts(2, 0x9600_0001, 0, 1, 0, 8),
+    )?;
+    say(
+        rt,
         b"a fact out of its kind",
         file_facts(1, 0x9000_0001, 0, 1, 0, 4),
-    );
-    say(b"16383 steps, falling", steps(0xa000_0000));
-    say(b"a step missing", steps(0xa000_3fff));
-    say(b"a step repeated", steps(0xa000_0001));
+    )?;
+    say(rt, b"16383 steps, falling", steps(0xa000_0000))?;
+    say(rt, b"a step missing", steps(0xa000_3fff))?;
+    say(rt, b"a step repeated", steps(0xa000_0001))
 }
 
-fn main() {
-    sizes();
-    depths();
-    file_lists();
-    say(b"a text up to the end of the fact text", path_text(4));
-    say(b"a text one byte longer", path_text(5));
+fn main(rt: HostRuntime) -> io::Result<()> {
+    sizes(&rt)?;
+    depths(&rt)?;
+    file_lists(&rt)?;
+    say(&rt, b"a text up to the end of the fact text", path_text(4))?;
+    say(&rt, b"a text one byte longer", path_text(5))
 }

@@ -2,8 +2,10 @@
 // The sample, crates/replay/stdin, is generated and has no texts but the generator's own. This made it:
 //   sh oracle/compare/run sample 1 440 > crates/replay/stdin
 #![tactic(auto)]
-use libc::STDOUT_FILENO;
+
 use replaying::{answers, records};
+use std::io;
+use std::io::Read;
 
 mod checks; // checks.rt: trees with their facts
 mod rule_checks; // rule_checks.rt: the operations on rules
@@ -92,50 +94,49 @@ fn count(counts: &mut [u64; 22], at: usize)
 }
 
 // Reads a record and counts its answer; false at the end of the sample.
-fn replay(counts: &mut [u64; 22]) -> bool {
-    let mut body = io::large_buffer();
-    let size = records::read(&mut body);
+fn replay<R: Read>(sample: &mut R, counts: &mut [u64; 22]) -> io::Result<bool> {
+    let mut body = [0u8; 65536];
+    let size = records::read(sample, &mut body)?;
     if size == 0 {
-        return false;
+        return Ok(false);
     }
     let record = &body[0..size];
     let operation = records::number(record);
     let right = is_right(operation, records::from(record, 4));
     count(counts, place(operation, right));
-    true
+    Ok(true)
 }
 
 // A proved loop has to end, and nothing says that the sample does: no run uses these turns up.
-fn replay_all(counts: &mut [u64; 22]) {
-    let mut turns = u64::MAX;
-    while turns > 0 && replay(counts) {
-        turns -= 1;
+fn replay_all<R: Read>(sample: &mut R, counts: &mut [u64; 22]) -> io::Result<()> {
+    for _ in 0..u64::MAX {
+        if !replay(sample, counts)? {
+            break;
+        }
     }
+    Ok(())
 }
 
-fn print(name: &[u8], equal: u64, different: u64) {
-    io::write_all(STDOUT_FILENO, name);
-    io::write_all(STDOUT_FILENO, b": ");
-    io::print_decimal(STDOUT_FILENO, equal);
-    io::write_all(STDOUT_FILENO, b" equal, ");
-    io::print_decimal(STDOUT_FILENO, different);
-    io::write_all(STDOUT_FILENO, b" different\n");
+fn print(rt: &impl Print, name: &[u8], equal: u64, different: u64) -> io::Result<()> {
+    rt.write_all(name)?;
+    println!(rt; ": {equal} equal, {different} different")
 }
 
-fn main() {
+fn main(rt: HostRuntime) -> io::Result<()> {
     let mut counts = [0u64; 22];
-    replay_all(&mut counts);
-    print(b"read tokens", counts[2], counts[3]);
-    print(b"check pairs", counts[4], counts[5]);
-    print(b"write raw code", counts[6], counts[7]);
-    print(b"check file trees", counts[8], counts[9]);
-    print(b"check rule trees", counts[10], counts[11]);
-    print(b"build rules", counts[12], counts[13]);
-    print(b"resolve", counts[14], counts[15]);
-    print(b"match nodes", counts[16], counts[17]);
-    print(b"jobs", counts[18], counts[19]);
-    print(b"walks", counts[20], counts[21]);
+    replay_all(&mut rt.stdin(), &mut counts)?;
+    print(&rt, b"read tokens", counts[2], counts[3])?;
+    print(&rt, b"check pairs", counts[4], counts[5])?;
+    print(&rt, b"write raw code", counts[6], counts[7])?;
+    print(&rt, b"check file trees", counts[8], counts[9])?;
+    print(&rt, b"check rule trees", counts[10], counts[11])?;
+    print(&rt, b"build rules", counts[12], counts[13])?;
+    print(&rt, b"resolve", counts[14], counts[15])?;
+    print(&rt, b"match nodes", counts[16], counts[17])?;
+    print(&rt, b"jobs", counts[18], counts[19])?;
+    print(&rt, b"walks", counts[20], counts[21])?;
     if 0 < counts[1] {
-        print(b"unknown operations", counts[0], counts[1]);
+        print(&rt, b"unknown operations", counts[0], counts[1])?;
     }
+    Ok(())
 }

@@ -1,4 +1,4 @@
-// The stored sample, on standard input. A number is four bytes, the lowest first. A record is
+// The stored sample. A number is four bytes, the lowest first. A record is
 //   the number of bytes that follow,
 //   the number of its operation, in document 01's order: 1 reading tokens, 2 checking a pair, 3 writing raw code, 4 checking the
 //   file's tree with its facts, 5 checking a rule's, 6 building rules, 7 resolving, 8 matching one node, 9 a job, 10 a walk,
@@ -6,9 +6,10 @@
 // The parts are what the operation is handed, in the order of its parameters, each word as a number and of a buffer its length, then
 // the buffer after the call, if there is one, and the expected answer: the fields of the exported struct in their order. Both are
 // stored up to the last byte that is not 0.
-ghost use Rattle.std.specs.Prelude.{◌<◌, ◌≤◌, length};
+ghost use Rattle.std.specs.Prelude.{◌<◌, ◌≤◌, length, IfOk};
 
-use libc::STDIN_FILENO;
+use std::io;
+use std::io::{ErrorKind, Read};
 use words::texts;
 
 // A byte as a number.
@@ -93,19 +94,34 @@ pub fn words_at(parts: &[u8], at: usize, out: &mut [u32]) -> usize
     words(part(parts, at), out)
 }
 
+// Fills a buffer from the sample; false where the sample ends before.
+fn is_filled<R: Read>(sample: &mut R, out: &mut [u8]) -> io::Result<bool> {
+    match sample.read_exact(out) {
+        Ok(()) => Ok(true),
+        Err(e) => {
+            if e.kind() == ErrorKind::UnexpectedEof {
+                return Ok(false);
+            }
+            Err(e)
+        }
+    }
+}
+
 // Reads the next record, without its length: how many bytes it has. 0 is for the end of the sample, and for a record that is cut
 // off or has no room.
-pub fn read(out: &mut [u8]) -> usize
-    ensures { result ≤ length out.new }
+pub fn read<R: Read>(sample: &mut R, out: &mut [u8]) -> io::Result<usize>
+    ensures { IfOk result (λ n. n ≤ length out.new) }
 {
     let mut head = [0u8; 4];
-    io::read_full(STDIN_FILENO, &mut head);
+    if !is_filled(sample, &mut head)? {
+        return Ok(0);
+    }
     let size = number(&head);
     if out.len() < size {
-        return 0;
+        return Ok(0);
     }
-    if io::read_full(STDIN_FILENO, &mut out[0..size]) == size {
-        return size;
+    if is_filled(sample, &mut out[0..size])? {
+        return Ok(size);
     }
-    0
+    Ok(0)
 }
