@@ -12,8 +12,7 @@ use edits::EditedNumbers;
 use exports::ranges;
 
 // A job, in a range that is given unless the flag is 0.
-#[unsafe(no_mangle)]
-pub extern "C" fn ssr_job<'a>(
+pub fn ssr_job<'a>(
     directory: &[u32],
     words: &[u32],
     bytes: &'a [u8],
@@ -41,8 +40,7 @@ pub extern "C" fn ssr_job<'a>(
 }
 
 // The walk, in a range that is given unless the flag is 0.
-#[unsafe(no_mangle)]
-pub extern "C" fn ssr_walk<'a>(
+pub fn ssr_walk<'a>(
     directory: &[u32],
     words: &[u32],
     bytes: &'a [u8],

@@ -1,6 +1,7 @@
-// The C ABI: one exported function for each operation of document 01, and two that check a tree with its facts by itself, all thin.
-// include/ssr.h declares them.
+// What the C ABI offers, as a library: one function for each operation of document 01, and two that check a tree with its facts by
+// itself, all thin. crates/ssr_c exports them.
 #![tactic(auto)]
+
 pub mod rule_exports; // rule_exports.rt: the operations on rules
 pub mod match_exports; // match_exports.rt: the operation that matches
 pub mod job_exports; // job_exports.rt: the operations that write an edit list
@@ -17,30 +18,21 @@ use parsing::patterns;
 use rules::stages;
 
 // Reading tokens.
-#[unsafe(no_mangle)]
-pub extern "C" fn ssr_read_tokens(words: &[u32], text: &[u8]) -> ReadTokens
+pub fn ssr_read_tokens(words: &[u32], text: &[u8]) -> ReadTokens
     ensures { result ≡ tokens_read (reading words.now text.now) }
 {
     exports::tokens_read(patterns::parse_pattern(words, text))
 }
 
 // Checking a pair, whose template is given unless the flag is 0: 01's number.
-#[unsafe(no_mangle)]
-pub extern "C" fn ssr_check_pair(
-    words: &[u32],
-    text: &[u8],
-    given: u32,
-    others: &[u32],
-    other: &[u8],
-) -> u32
+pub fn ssr_check_pair(words: &[u32], text: &[u8], given: u32, others: &[u32], other: &[u8]) -> u32
     ensures { result ≡ pair_number words.now text.now given others.now other.now }
 {
     errors::outcome_number(validating::validate_rule(words, text, given != 0, others, other))
 }
 
 // Writing raw code into a buffer.
-#[unsafe(no_mangle)]
-pub extern "C" fn ssr_raw_code(words: &[u32], text: &[u8], out: &mut [u8]) -> RawCode
+pub fn ssr_raw_code(words: &[u32], text: &[u8], out: &mut [u8]) -> RawCode
     ensures value { result ≡ code_written (code_answer (used_of (length out.old)) text.now (reading words.now text.now)) }
     ensures out_after { out.new ≡ filled out.old (code_bytes (used_of (length out.old)) text.now (reading words.now text.now)) }
 {
@@ -48,16 +40,14 @@ pub extern "C" fn ssr_raw_code(words: &[u32], text: &[u8], out: &mut [u8]) -> Ra
 }
 
 // The file's tree with its facts: 01's number.
-#[unsafe(no_mangle)]
-pub extern "C" fn ssr_check_file(words: &[u32], text: &[u8], facts: &[u32]) -> u32
+pub fn ssr_check_file(words: &[u32], text: &[u8], facts: &[u32]) -> u32
     ensures { result ≡ file_number words.now text.now facts.now }
 {
     errors::outcome_number(trees::check_file(words, text, facts))
 }
 
 // A rule's tree with its facts, and its list, which is given unless the flag is 0: 01's number.
-#[unsafe(no_mangle)]
-pub extern "C" fn ssr_check_rule_tree(
+pub fn ssr_check_rule_tree(
     given: u32,
     list: &[u32],
     text: &[u8],

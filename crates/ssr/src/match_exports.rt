@@ -10,8 +10,7 @@ use exports::{match_answers, ranges};
 use rule_match::Question;
 
 // Matching one node with one rule, in a range that is given unless the flag is 0.
-#[unsafe(no_mangle)]
-pub extern "C" fn ssr_match_node(
+pub fn ssr_match_node(
     directory: &[u32],
     words: &[u32],
     bytes: &[u8],

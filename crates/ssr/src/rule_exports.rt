@@ -10,21 +10,14 @@ use resolving::operation;
 use rules::building;
 
 // Building rules, with the number of a rule that is asked for.
-#[unsafe(no_mangle)]
-pub extern "C" fn ssr_build_rules(
-    directory: &[u32],
-    words: &[u32],
-    bytes: &[u8],
-    rule: usize,
-) -> BuiltRules
+pub fn ssr_build_rules(directory: &[u32], words: &[u32], bytes: &[u8], rule: usize) -> BuiltRules
     ensures { result ≡ rules_built (built_rules directory.now words.now bytes.now rule) }
 {
     rule_answers::rules_built(building::build_rules(directory, words, bytes, rule))
 }
 
 // Resolving, with the number of a rule, a side and an element that are asked for.
-#[unsafe(no_mangle)]
-pub extern "C" fn ssr_resolve(
+pub fn ssr_resolve(
     directory: &[u32],
     words: &[u32],
     bytes: &[u8],

@@ -1,0 +1,88 @@
+// The operations that write an edit list.
+ghost use Rattle.std.specs.Prelude.{◌≡◌, length};
+ghost use Rattle.words.specs.Buffer.{used_of};
+ghost use Rattle.checks.specs.Given.{file_of};
+ghost use Rattle.edits.specs.Answers.{edited_numbers};
+ghost use Rattle.job_checks.specs.Checks.{job_of};
+ghost use Rattle.job_answers.specs.Answers.{job_answer, buffer_after};
+ghost use Rattle.walk_answers.specs.Walk.{walk_of, walk_answer, walk_buffer};
+ghost use Rattle.exports.specs.Matches.{restriction};
+
+use edits::EditedNumbers;
+use ssr::job_exports;
+
+// A job, in a range that is given unless the flag is 0.
+#[unsafe(no_mangle)]
+pub extern "C" fn ssr_job<'a>(
+    directory: &[u32],
+    words: &[u32],
+    bytes: &'a [u8],
+    fact_text: &'a [u8],
+    tree: &[u32],
+    text: &[u8],
+    facts: &[u32],
+    parses: &[u32],
+    parse_text: &[u8],
+    candidates: &[u32],
+    range_given: u32,
+    range_start: usize,
+    range_end: usize,
+    out: &mut [u8],
+) -> EditedNumbers
+    ensures value { result ≡ edited_numbers (job_answer (job_of directory.now words.now bytes.now fact_text.now (file_of tree.now text.now facts.now) parses.now parse_text.now candidates.now (restriction range_given range_start range_end)) (used_of (length out.old))) }
+    ensures out_after { out.new ≡ buffer_after (job_of directory.now words.now bytes.now fact_text.now (file_of tree.now text.now facts.now) parses.now parse_text.now candidates.now (restriction range_given range_start range_end)) out.old }
+{
+    job_exports::ssr_job(
+        directory,
+        words,
+        bytes,
+        fact_text,
+        tree,
+        text,
+        facts,
+        parses,
+        parse_text,
+        candidates,
+        range_given,
+        range_start,
+        range_end,
+        out,
+    )
+}
+
+// The walk, in a range that is given unless the flag is 0.
+#[unsafe(no_mangle)]
+pub extern "C" fn ssr_walk<'a>(
+    directory: &[u32],
+    words: &[u32],
+    bytes: &'a [u8],
+    fact_text: &'a [u8],
+    tree: &[u32],
+    text: &[u8],
+    facts: &[u32],
+    parses: &[u32],
+    parse_text: &[u8],
+    range_given: u32,
+    range_start: usize,
+    range_end: usize,
+    out: &mut [u8],
+) -> EditedNumbers
+    ensures value { result ≡ edited_numbers (walk_answer (walk_of directory.now words.now bytes.now fact_text.now (file_of tree.now text.now facts.now) parses.now parse_text.now (restriction range_given range_start range_end)) (used_of (length out.old))) }
+    ensures out_after { out.new ≡ walk_buffer (walk_of directory.now words.now bytes.now fact_text.now (file_of tree.now text.now facts.now) parses.now parse_text.now (restriction range_given range_start range_end)) out.old }
+{
+    job_exports::ssr_walk(
+        directory,
+        words,
+        bytes,
+        fact_text,
+        tree,
+        text,
+        facts,
+        parses,
+        parse_text,
+        range_given,
+        range_start,
+        range_end,
+        out,
+    )
+}
