@@ -1,4 +1,4 @@
-//! Links the archive that `rt staticlib` writes.
+//! Links the archive that `include/archive` writes.
 
 use std::path::Path;
 
