@@ -3,7 +3,6 @@
 
 use ssr::{ssr_check_file, ssr_check_rule_tree};
 use std::io;
-use std::num::{wrapping_add_u32, wrapping_sub_u32, wrapping_sub_usize};
 use words::texts;
 
 // One word; past the end nothing is stored.
@@ -17,29 +16,27 @@ fn put(words: &mut [u32], at: usize, word: u32) {
 fn elements(words: &mut [u32], from: u32, to: u32, head: u32, shrink: u32, bytes: u32) {
     let mut word = head;
     let mut end: u32 = 0;
-    let mut i = from;
-    while i < to {
+    for i in from..to {
         let at = (i as usize) * 3;
         put(words, at, word);
-        put(words, at + 1, wrapping_add_u32(0x3000_0000, end));
-        end = wrapping_add_u32(end, bytes);
-        put(words, at + 2, wrapping_add_u32(0x4000_0000, end));
-        word = wrapping_sub_u32(word, shrink);
-        i += 1;
+        put(words, at + 1, 0x3000_0000u32.wrapping_add(end));
+        end = end.wrapping_add(bytes);
+        put(words, at + 2, 0x4000_0000u32.wrapping_add(end));
+        word = word.wrapping_sub(shrink);
     }
 }
 
 // The root over a text, with a number of elements in all.
 fn root(words: &mut [u32], count: u32, bytes: u32) {
-    put(words, 0, wrapping_add_u32(0x1040_0000, count));
+    put(words, 0, 0x1040_0000u32.wrapping_add(count));
     put(words, 1, 0x3000_0000);
-    put(words, 2, wrapping_add_u32(0x4000_0000, bytes));
+    put(words, 2, 0x4000_0000u32.wrapping_add(bytes));
 }
 
 // A root with tokens of a byte each.
 fn tokens(words: &mut [u32], count: u32) {
     elements(words, 1, count, 0x200c_0001, 0, 1);
-    root(words, count, wrapping_sub_u32(count, 1));
+    root(words, count, count.wrapping_sub(1));
 }
 
 // A root with empty nodes.
@@ -50,38 +47,30 @@ fn nodes(words: &mut [u32], count: u32) {
 
 // Empty nodes, each in the one before.
 fn nested(words: &mut [u32], count: u32) {
-    elements(words, 0, count, wrapping_add_u32(0x1040_0000, count), 1, 0);
+    elements(words, 0, count, 0x1040_0000u32.wrapping_add(count), 1, 0);
 }
 
 // Nodes over one byte, each in the one before, and a token in the last.
 fn nested_token(words: &mut [u32], count: u32) {
     nested(words, count);
-    let mut i: u32 = 0;
-    while i < count {
+    for i in 0..count {
         put(words, (i as usize) * 3 + 2, 0x4000_0001);
-        i += 1;
     }
-    put(
-        words,
-        wrapping_sub_usize((count as usize) * 3, 3),
-        0x200c_0001,
-    );
+    put(words, ((count as usize) * 3).wrapping_sub(3), 0x200c_0001);
 }
 
 // Facts from an element on, each at the one `rise` further, whose first values fall.
 fn facts(words: &mut [u32], count: u32, head: u32, rise: u32, first: u32, fall: u32) {
     let mut word = head;
-    let mut value = wrapping_add_u32(0xa000_0000, first);
-    let mut i: u32 = 0;
-    while i < count {
+    let mut value = 0xa000_0000u32.wrapping_add(first);
+    for i in 0..count {
         let at = (i as usize) * 4;
         put(words, at, word);
         put(words, at + 1, value);
         put(words, at + 2, 0xa000_0000);
         put(words, at + 3, 0xa000_0000);
-        word = wrapping_add_u32(word, rise);
-        value = wrapping_sub_u32(value, fall);
-        i += 1;
+        word = word.wrapping_add(rise);
+        value = value.wrapping_sub(fall);
     }
 }
 
@@ -174,7 +163,7 @@ fn path_text(length: u32) -> u32 {
         0x9700_0000u32,
         0xa000_0001,
         0xa000_0000,
-        wrapping_add_u32(0xa000_0000, length),
+        0xa000_0000u32.wrapping_add(length),
     ];
     ssr_check_rule_tree(1, &list, b"x", 1, &tree, b"x", &fact, b"text")
 }

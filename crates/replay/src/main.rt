@@ -90,7 +90,7 @@ fn place(operation: usize, right: bool) -> usize
 fn count(counts: &mut [u64; 22], at: usize)
     requires { at < 22 }
 {
-    counts[at] = std::num::wrapping_add_u64(counts[at], 1);
+    counts[at] = counts[at].wrapping_add(1);
 }
 
 // Reads a record and counts its answer; false at the end of the sample.

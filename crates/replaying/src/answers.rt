@@ -32,11 +32,8 @@ fn lay_placeholder(out: &mut [u8], at: usize, p: NamedPlaceholder) -> usize {
 
 fn lay_placeholders(out: &mut [u8], at: usize, answer: ReadTokens) -> usize {
     let mut next = at;
-    let mut i: usize = 0;
-    while i < 8 {
-        let p = answer.placeholders[i];
-        next = lay_placeholder(out, next, p);
-        i += 1;
+    for p in &answer.placeholders {
+        next = lay_placeholder(out, next, *p);
     }
     next
 }
@@ -101,10 +98,8 @@ pub fn is_buffer(out: &[u8], expected: &[u8]) -> bool {
 // Lays words from a place on: the place behind them.
 fn lay_words(out: &mut [u8], at: usize, words: &[u32]) -> usize {
     let mut next = at;
-    let mut i: usize = 0;
-    while i < words.len() {
-        next = lay_word(out, next, words[i]);
-        i += 1;
+    for word in words {
+        next = lay_word(out, next, *word);
     }
     next
 }
@@ -167,11 +162,8 @@ fn lay_binding(out: &mut [u8], at: usize, b: BoundPlaceholder) -> usize {
 
 fn lay_bindings(out: &mut [u8], at: usize, answer: MatchedNode) -> usize {
     let mut next = at;
-    let mut i: usize = 0;
-    while i < 8 {
-        let b = answer.bindings[i];
-        next = lay_binding(out, next, b);
-        i += 1;
+    for b in &answer.bindings {
+        next = lay_binding(out, next, *b);
     }
     next
 }

@@ -50,11 +50,8 @@ fn behind(parts: &[u8]) -> &[u8] {
 // A part by its place, the first at 0.
 pub fn part(parts: &[u8], at: usize) -> &[u8] {
     let mut left = parts;
-    let mut i: usize = 0;
-    while i < at {
-        let rest = behind(left);
-        left = rest;
-        i += 1;
+    for _ in 0..at {
+        left = behind(left);
     }
     first(left)
 }
@@ -74,17 +71,14 @@ fn words(part: &[u8], out: &mut [u32]) -> usize
     ensures { result ≤ length out.new }
 {
     let mut left = part;
-    let mut i: usize = 0;
-    while i < out.len() {
+    for i in 0..out.len() {
         if left.len() < 4 {
             return i;
         }
         out[i] = number(left) as u32;
-        let rest = from(left, 4);
-        left = rest;
-        i += 1;
+        left = from(left, 4);
     }
-    i
+    out.len()
 }
 
 // The same for the part at a place.
