@@ -6,7 +6,9 @@
 // The parts are what the operation is handed, in the order of its parameters, each word as a number and of a buffer its length, then
 // the buffer after the call, if there is one, and the expected answer: the fields of the exported struct in their order. Both are
 // stored up to the last byte that is not 0.
-ghost use Rattle.std.specs.Prelude.{◌<◌, ◌≤◌, length, IfOk};
+ghost use Rattle.std.specs.Prelude.{◌≡◌, ◌<◌, ◌≤◌, length, take, true, IfOk};
+ghost use Rattle.std.specs.Io.KnownBytes.{Consumes};
+ghost use Rattle.replaying.specs.Records.{number_of, TakesRecord};
 
 use std::io;
 use std::io::{ErrorKind, Read};
@@ -14,14 +16,18 @@ use words::texts;
 
 // A byte as a number.
 fn wide(b: u8) -> usize
-    ensures { result < 256 }
+    ensures range { result < 256 }
+    ensures value { result ≡ b }
 {
     b as usize
 }
 
 // The number that bytes begin with, 0 where there are no four.
+#[tactic(auto, unfolding(crate::specs::Records::number_of))]
 pub fn number(s: &[u8]) -> usize
-    ensures { result < 4294967296 }
+    ensures range { result < 4294967296 }
+    ensures value { 4 ≤ length s.now → result ≡ number_of s.now }
+    ensures cut_off { length s.now < 4 → result ≡ 0 }
 {
     if s.len() < 4 {
         return 0;
@@ -89,7 +95,9 @@ pub fn words_at(parts: &[u8], at: usize, out: &mut [u32]) -> usize
 }
 
 // Fills a buffer from the sample; false where the sample ends before.
-fn is_filled<R: Read>(sample: &mut R, out: &mut [u8]) -> io::Result<bool> {
+fn is_filled<R: Read>(sample: &mut R, out: &mut [u8]) -> io::Result<bool>
+    ensures { IfOk result (λ filled. filled ≡ true → Consumes (R.remaining sample.old) (R.remaining sample.new) out.new) }
+{
     match sample.read_exact(out) {
         Ok(()) => Ok(true),
         Err(e) => {
@@ -104,7 +112,8 @@ fn is_filled<R: Read>(sample: &mut R, out: &mut [u8]) -> io::Result<bool> {
 // Reads the next record, without its length: how many bytes it has. 0 is for the end of the sample, and for a record that is cut
 // off or has no room.
 pub fn read<R: Read>(sample: &mut R, out: &mut [u8]) -> io::Result<usize>
-    ensures { IfOk result (λ n. n ≤ length out.new) }
+    ensures in_room { IfOk result (λ n. n ≤ length out.new) }
+    ensures taken { IfOk result (λ n. 0 < n → TakesRecord (R.remaining sample.old) (R.remaining sample.new) (take n out.new)) }
 {
     let mut head = [0u8; 4];
     if !is_filled(sample, &mut head)? {
