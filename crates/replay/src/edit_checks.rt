@@ -1,5 +1,5 @@
 // The operations that write an edit list. Parses and candidates have room for 512 words each.
-use replaying::{answers, records};
+use replaying::{answer_bytes, records};
 use ssr::job_exports;
 
 // Whether a job with a buffer answers and leaves it as expected.
@@ -29,8 +29,8 @@ fn is_edited(
         records::number_at(parts, 12),
         out,
     );
-    answers::is_buffer(out, records::part(parts, 14))
-        & answers::is_edited(answer, records::part(parts, 15))
+    answer_bytes::is_buffer(out, records::part(parts, 14))
+        & answer_bytes::is_edited(answer, records::part(parts, 15))
 }
 
 // Whether a job is right.
@@ -82,8 +82,8 @@ fn walk(
         records::number_at(parts, 11),
         out,
     );
-    answers::is_buffer(out, records::part(parts, 13))
-        & answers::is_edited(answer, records::part(parts, 14))
+    answer_bytes::is_buffer(out, records::part(parts, 13))
+        & answer_bytes::is_edited(answer, records::part(parts, 14))
 }
 
 // Whether a job or a walk is right.

@@ -1,6 +1,6 @@
 // The operations on a file with rules. A tree and facts have room for 512 words each, a buffer for 256 bytes.
 use crate::edit_checks;
-use replaying::{answers, records};
+use replaying::{answer_bytes, records};
 use ssr::match_exports;
 
 // Whether matching one node with a buffer answers and leaves it as expected.
@@ -27,8 +27,8 @@ fn is_matched(
         records::number_at(parts, 11),
         out,
     );
-    answers::is_buffer(out, records::part(parts, 13))
-        & answers::is_matched(answer, records::part(parts, 14))
+    answer_bytes::is_buffer(out, records::part(parts, 13))
+        & answer_bytes::is_matched(answer, records::part(parts, 14))
 }
 
 // The place of the buffer's length: a job has candidates, and so one part more before it.

@@ -3,11 +3,11 @@
 //   sh oracle/compare/run sample 1 440 > crates/replay/stdin
 #![tactic(auto)]
 
-use replaying::{answers, records};
+use replaying::{answer_bytes, records};
 use std::io;
 use std::io::Read;
 
-mod checks; // checks.rt: trees with their facts
+mod fact_tree_checks; // fact_tree_checks.rt: trees with their facts
 mod rule_checks; // rule_checks.rt: the operations on rules
 mod file_checks; // file_checks.rt: the operations on a file with rules
 mod edit_checks; // edit_checks.rt: the operations that write an edit list
@@ -17,7 +17,7 @@ ghost use Rattle.std.specs.Prelude.{◌<◌};
 // Whether reading tokens answers as expected.
 fn read_tokens(words: &[u32], parts: &[u8]) -> bool {
     let answer = ssr::ssr_read_tokens(words, records::part(parts, 1));
-    answers::is_tokens(answer, records::part(parts, 2))
+    answer_bytes::is_tokens(answer, records::part(parts, 2))
 }
 
 // Whether checking a pair answers as expected.
@@ -31,14 +31,14 @@ fn check_pair(words: &[u32], parts: &[u8]) -> bool {
         &others[0..n],
         records::part(parts, 4),
     );
-    answers::is_number(answer, records::part(parts, 5))
+    answer_bytes::is_number(answer, records::part(parts, 5))
 }
 
 // Whether writing raw code into a buffer answers and leaves it as expected.
 fn is_written(words: &[u32], parts: &[u8], out: &mut [u8]) -> bool {
     let answer = ssr::ssr_raw_code(words, records::part(parts, 1), out);
-    answers::is_buffer(out, records::part(parts, 3))
-        & answers::is_code(answer, records::part(parts, 4))
+    answer_bytes::is_buffer(out, records::part(parts, 3))
+        & answer_bytes::is_code(answer, records::part(parts, 4))
 }
 
 // Whether writing raw code is right. No byte of the buffer is 0 before.
@@ -67,8 +67,8 @@ fn with_list(operation: usize, parts: &[u8]) -> bool {
 fn is_right(operation: usize, parts: &[u8]) -> bool {
     match operation {
         1..=3 => with_list(operation, parts),
-        4 => checks::check_file(parts),
-        5 => checks::check_rule_tree(parts),
+        4 => fact_tree_checks::check_file(parts),
+        5 => fact_tree_checks::check_rule_tree(parts),
         6..=10 => rule_checks::with_rules(operation, parts),
         _ => false,
     }

@@ -1,6 +1,6 @@
 // The operations on rules. A directory and its words have room for 512 each.
 use crate::file_checks;
-use replaying::{answers, records};
+use replaying::{answer_bytes, records};
 use ssr::rule_exports;
 
 // Whether building rules answers as expected.
@@ -11,7 +11,7 @@ fn is_built(directory: &[u32], words: &[u32], parts: &[u8]) -> bool {
         records::part(parts, 2),
         records::number_at(parts, 3),
     );
-    answers::is_built(answer, records::part(parts, 4))
+    answer_bytes::is_built(answer, records::part(parts, 4))
 }
 
 // Whether resolving an element of a rule's side answers as expected.
@@ -25,7 +25,7 @@ fn is_resolved(directory: &[u32], words: &[u32], parts: &[u8]) -> bool {
         records::word_at(parts, 5),
         records::number_at(parts, 6),
     );
-    answers::is_resolved(answer, records::part(parts, 7))
+    answer_bytes::is_resolved(answer, records::part(parts, 7))
 }
 
 // Whether an operation that is handed rules answers as expected.

@@ -2,4 +2,4 @@
 #![tactic(auto)]
 
 pub mod records; // records.rt: a record and its parts
-pub mod answers; // answers.rt: the bytes of an answer
+pub mod answer_bytes; // answer_bytes.rt: the bytes of an answer

@@ -1,5 +1,5 @@
 // Trees with their facts. A list, a tree and facts have room for 512 words each.
-use replaying::{answers, records};
+use replaying::{answer_bytes, records};
 
 // Whether checking the file's tree with its facts answers as expected.
 pub fn check_file(parts: &[u8]) -> bool {
@@ -8,7 +8,7 @@ pub fn check_file(parts: &[u8]) -> bool {
     let mut facts = [0u32; 512];
     let m = records::words_at(parts, 2, &mut facts);
     let answer = ssr::ssr_check_file(&tree[0..n], records::part(parts, 1), &facts[0..m]);
-    answers::is_number(answer, records::part(parts, 3))
+    answer_bytes::is_number(answer, records::part(parts, 3))
 }
 
 // Whether a rule's tree with its facts answers as expected.
@@ -25,7 +25,7 @@ fn is_checked(list: &[u32], tree: &[u32], parts: &[u8]) -> bool {
         &facts[0..n],
         records::part(parts, 7),
     );
-    answers::is_number(answer, records::part(parts, 8))
+    answer_bytes::is_number(answer, records::part(parts, 8))
 }
 
 // Whether checking a rule's tree with its facts answers as expected.
