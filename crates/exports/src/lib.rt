@@ -1,5 +1,6 @@
 // What crosses the C ABI as numbers: each answer enum or struct turned into a struct of numbers, and a range as it is handed over.
 #![tactic(auto)]
+
 pub mod ranges; // ranges.rt: a range as it is handed over
 pub mod rule_answers; // rule_answers.rt: the answers of the operations on rules
 pub mod match_answers; // match_answers.rt: the answer of the operation that matches

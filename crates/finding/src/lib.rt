@@ -1,5 +1,6 @@
 // The candidates of the walk that match: of one rule after the other, each made ready once.
 #![tactic(auto)]
+
 ghost use Rattle.std.specs.Prelude.{◌≡◌, false, List, map, ◌++◌, ◌*◌, ◌/◌, ◌≤◌, ◌<◌, length};
 ghost use Rattle.errors.specs.declared.Outcome.TheVariants.{Accepted};
 ghost use Rattle.fragments.specs.Pairs.{pairs, pair_of, pair_at};

@@ -1,5 +1,6 @@
 // The rows and links of all candidates: of one rule after the other, each made ready once.
 #![tactic(auto)]
+
 ghost use Rattle.std.specs.Prelude.{◌≡◌, true, false, map, ℕ, ◌+◌, ◌*◌, ◌%◌, ◌<◌, ◌≤◌, length, get_or};
 ghost use Rattle.errors.specs.declared.Outcome.TheVariants.{Accepted};
 ghost use Rattle.fragments.specs.Pairs.{pairs, pair_of, pair_at};

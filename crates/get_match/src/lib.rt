@@ -1,5 +1,6 @@
 // `get_match` of docs/src/src/matching.rs on input that was checked: one node of a file with one rule that was made ready.
 #![tactic(auto)]
+
 pub mod templates; // templates.rt: whether the template's paths can be rendered for a module
 
 ghost use Rattle.std.specs.Prelude.{◌≡◌, true, not, ◌||◌, List, ℕ, ◌+◌, ◌*◌, ◌<◌, length};

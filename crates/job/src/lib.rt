@@ -1,5 +1,6 @@
 // The operation "A job": candidates are matched, nested and rendered, and the edit list is written.
 #![tactic(auto)]
+
 mod checking; // checking.rt: the checks of a job in turn
 
 ghost use Rattle.std.specs.Prelude.{◌≡◌, ◌/◌, ◌≤◌, length};

@@ -1,5 +1,6 @@
 // The checks of a job behind 22, in document 01's order: 24 to 28. The tables are lent.
 #![tactic(auto)]
+
 ghost use Rattle.std.specs.Prelude.{◌≡◌, true, not, List, [], ◌∷◌, ℕ, ◌≤◌, length, take};
 ghost use Rattle.errors.specs.declared.Outcome.TheVariants.{Accepted};
 ghost use Rattle.errors.specs.Refusals.{first_of, in_turn};

@@ -1,5 +1,6 @@
 // The edit list of a job that passed its checks: its candidates are nested, and what they match is written.
 #![tactic(auto)]
+
 ghost use Rattle.std.specs.Prelude.{◌≡◌, ◌*◌, ◌≤◌, length};
 ghost use Rattle.checks.specs.Given.{file_of};
 ghost use Rattle.rule_paths.specs.Needs.{AllRoomy};

@@ -1,5 +1,6 @@
 // A job's rows: which of its candidates match, and what becomes of each match.
 #![tactic(auto)]
+
 ghost use Rattle.std.specs.Prelude.{◌*◌, ◌≤◌, length};
 ghost use Rattle.rule_paths.specs.Needs.{AllRoomy};
 ghost use Rattle.checks.specs.Given.{file_of};

@@ -1,5 +1,6 @@
 // The operation "Matching one node".
 #![tactic(auto)]
+
 ghost use Rattle.std.specs.Prelude.{◌≡◌, false, ◌&&◌, List, map, ℕ, ◌≤◌, ◌/◌, length};
 ghost use Rattle.errors.specs.declared.Outcome.TheVariants.{Accepted};
 ghost use Rattle.words.specs.Buffer.{used_of, filled};

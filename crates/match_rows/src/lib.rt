@@ -1,5 +1,6 @@
 // The row and the link of one candidate.
 #![tactic(auto)]
+
 ghost use Rattle.std.specs.Prelude.{◌≡◌, cond, List, [], ℕ, ◌+◌, ◌*◌, ◌<◌, ◌≤◌, length, get_or};
 ghost use Rattle.captures.specs.Attempts.{Attempt};
 ghost use Rattle.captures.specs.Effects.{unbound, nothing, Gives};

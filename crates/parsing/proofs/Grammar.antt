@@ -191,6 +191,7 @@ module _ (text : List ℕ) where
     where
       step : (m : ℕ) (qs : List Token) (v : Var) → Constraint text a m → Inside (more p (0 + m)) qs v → Inside p (t ∷ (a ++ qs)) v
       step m _ _ h (ends x c {cs = cs} {ns = ns} n hs hc) = rw (← append_assoc a cs (c ∷ []), zero-add m, append_assoc p.nots (m ∷ []) ns) (ends x c n (constrained t ht h hs) hc)
+
       by : (m : ℕ) (qs : List Token) (v : Var) → Constraint text a m → Closing p (0 + m) 0 qs v → Inside p (t ∷ (a ++ qs)) v
       by m qs v h (all i) = step m qs v h i
 

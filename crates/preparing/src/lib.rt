@@ -1,5 +1,6 @@
 // A rule of a pair made ready for matching. The tables are lent: the facts' index with its spare, the paths' and the calls', and the marks.
 #![tactic(auto)]
+
 ghost use Rattle.std.specs.Prelude.{◌≡◌, true, false, ◌*◌, ◌/◌, ◌≤◌, length};
 ghost use Rattle.fragments.specs.Pairs.{pair_of, tree_of, is_present};
 ghost use Rattle.prepared.specs.Rules.{Marked};

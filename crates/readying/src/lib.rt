@@ -1,5 +1,6 @@
 // A rule's template made ready for rendering: a table of numbers that tells its fragments in a module.
 #![tactic(auto)]
+
 pub mod telling; // telling.rt: paths as ranges of the fact text
 
 ghost use Rattle.std.specs.Prelude.{◌≡◌, true, false, map, ◌≤◌, ◌<◌};

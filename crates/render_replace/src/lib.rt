@@ -1,5 +1,6 @@
 // `render_replace` of docs/src/src/replacing.rs: the text of an outer match, with those nested in it.
 #![tactic(auto)]
+
 pub mod comments; // comments.rt: the comments of a match
 pub mod turns; // turns.rt: one row's turn
 

@@ -1,5 +1,6 @@
 // What matching one node, a job and the walk begin with: 1 to 22.
 #![tactic(auto)]
+
 ghost use Rattle.std.specs.Prelude.{◌≡◌, [], ◌∷◌, ◌≤◌, ◌/◌, length};
 ghost use Rattle.errors.specs.declared.Outcome.TheVariants.{Accepted};
 ghost use Rattle.errors.specs.Refusals.{in_turn};

@@ -1,5 +1,6 @@
 // One node of the file with one rule of those handed in.
 #![tactic(auto)]
+
 ghost use Rattle.std.specs.Prelude.{◌≡◌, true, ◌≤◌, length};
 ghost use Rattle.fragments.specs.Pairs.{pair_of, pair_at};
 ghost use Rattle.captures.specs.Effects.{nothing, Gives};

@@ -1,6 +1,7 @@
 // The whole-file walk: a candidate of every node with every rule. Those that match are found and laid as a job's candidates, and the job's edit
 // list is written.
 #![tactic(auto)]
+
 ghost use Rattle.std.specs.Prelude.{◌≡◌, true, [], ◌∷◌, ◌*◌, ◌/◌, ◌≤◌, length, drop};
 ghost use Rattle.errors.specs.Refusals.{first_of, in_turn};
 ghost use Rattle.words.specs.Buffer.{used_of, filled};

@@ -1,5 +1,6 @@
 // What the walk answers: its candidates, its checks, and that within the limits it is the job on its list.
 #![tactic(auto)]
+
 ghost use Rattle.std.specs.Prelude.{◌≡◌, [], take};
 ghost use Rattle.errors.specs.declared.Outcome.TheVariants.{Accepted};
 ghost use Rattle.errors.specs.Refusals.{first_of};

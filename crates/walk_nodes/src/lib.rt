@@ -1,5 +1,6 @@
 // The nodes that match a rule that was made ready.
 #![tactic(auto)]
+
 ghost use Rattle.std.specs.Prelude.{◌≡◌, true, not, ◌&&◌, ◌||◌, List, ◌++◌, ℕ, ◌+◌, ◌*◌, ◌/◌, ◌<◌, ◌≤◌, length};
 ghost use Rattle.syntax.specs.Trees.{Elems, tree};
 ghost use Rattle.syntax.specs.Accessors.{element_at, by_itself, node_in};

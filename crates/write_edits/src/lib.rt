@@ -1,5 +1,6 @@
 // The edit list of a job, from front to back: an edit for each outer row, with its text and those nested in it.
 #![tactic(auto)]
+
 ghost use Rattle.std.specs.Prelude.{◌≡◌, true, ◌+◌, ◌*◌, ◌≤◌, ◌<◌, length, take};
 ghost use Rattle.words.specs.Buffer.{filled};
 ghost use Rattle.matcher.specs.FileFacts.{FileOf};

@@ -29,9 +29,9 @@ loop-j-preserved c = let l = c.loop-j in
     let e : c.word-state.result ≡ field rows l.j 2 = c.word-state.ensures in (
       omega arith,
       elim c.if-state-ge3.branch [
-          then-state-ge3 w ↦ subst (Linked rows (l.j + 1) links) (sym (w.links-is ∙ ap (λ (n : ℕ). set l.links (3 * (n - 3)) (l.j + 1)) e))
-          (next l.j lt l.links l.invariant.1 (omega (arith, w.if-state-ge3.true)))
-          | else-state-ge3 w ↦ subst (Linked rows (l.j + 1) links) (sym w.links-is) (by l.j lt l.links l.invariant.1 (omega (arith, w.if-state-ge3.false)))
+        | then-state-ge3 w ↦ subst (Linked rows (l.j + 1) links) (sym (w.links-is ∙ ap (λ (n : ℕ). set l.links (3 * (n - 3)) (l.j + 1)) e))
+            (next l.j lt l.links l.invariant.1 (omega (arith, w.if-state-ge3.true)))
+        | else-state-ge3 w ↦ subst (Linked rows (l.j + 1) links) (sym w.links-is) (by l.j lt l.links l.invariant.1 (omega (arith, w.if-state-ge3.false)))
       ],
     )
 

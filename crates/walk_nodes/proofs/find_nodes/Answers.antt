@@ -58,20 +58,21 @@ loop-node-preserved c = let a = c.args in let l = c.loop-node in let m = c.is_ma
     let Now = LaysBelow p rule file marks words facts paths t a.cx a.has_template a.elements a.number a.range a.before a.candidates.now in
     let step : (if1.count ≤ 1024) × (length if1.candidates ≡ length a.candidates.now) × Now (l.node + 1) if1.count if1.candidates =
     elim if1.branch [
-    then-is_match+else-count-eq1024 w ↦ rw (w.candidates-is, w.count-is) (
-      omega (arith, l.invariant.1),
-      simp length-set l.invariant.2,
-      lays_more p rule file marks words facts paths t a.cx a.has_template a.elements a.number a.range a.before
-          a.candidates.now l.node l.count l.candidates l.invariant.4
-          (λ x root calls f u n k. sym (m.ensures.value x root calls f u n k) ∙ w.if-is_match.true) (omega (arith, c.requires.number_bound.2, l.invariant.1, l.invariant.2)),
-    )
-    | else-is_match w ↦ rw (w.candidates-is, w.count-is) (
-      l.invariant.1,
-      l.invariant.2,
-      lays_same p rule file marks words facts paths t a.cx a.has_template a.elements a.number a.range a.before
-          a.candidates.now l.node l.count l.candidates l.invariant.4
-          (λ x root calls f u n k. sym (m.ensures.value x root calls f u n k) ∙ w.if-is_match.false),
-    ) ] in (
+      | then-is_match+else-count-eq1024 w ↦ rw (w.candidates-is, w.count-is) (
+        omega (arith, l.invariant.1),
+        simp length-set l.invariant.2,
+        lays_more p rule file marks words facts paths t a.cx a.has_template a.elements a.number a.range a.before
+            a.candidates.now l.node l.count l.candidates l.invariant.4
+            (λ x root calls f u n k. sym (m.ensures.value x root calls f u n k) ∙ w.if-is_match.true) (omega (arith, c.requires.number_bound.2, l.invariant.1, l.invariant.2)),
+      )
+      | else-is_match w ↦ rw (w.candidates-is, w.count-is) (
+        l.invariant.1,
+        l.invariant.2,
+        lays_same p rule file marks words facts paths t a.cx a.has_template a.elements a.number a.range a.before
+            a.candidates.now l.node l.count l.candidates l.invariant.4
+            (λ x root calls f u n k. sym (m.ensures.value x root calls f u n k) ∙ w.if-is_match.false),
+      )
+    ] in (
       v.ensures.lower_bound.1,
       step.0,
       step.1,
