@@ -55,7 +55,7 @@ module _ {W : World} {rows : List ℕ} {end k : ℕ} {tree text table code fact_
   pub at_end_lem : {frames' out' : List ℕ} {at' : ℕ} → Passing W k frames' out' at' × (passed_of frames' k ≡ length (W.fragments k))
       → Shows W rows frames' k table code fact_text kind parses parse_text out' at'
   at_end_lem l = record {
-    are_rows_lem = p.at_step.shows.reads;
+    are_rows = p.at_step.shows.reads;
     are_fragments = p.at_step.fragments;
     is_kind = p.is_kind;
     is_parse = p.is_parse;
