@@ -42,18 +42,19 @@ loop-i-preserved c = let a = c.args in let l = c.loop-i in let keys = a.keys.now
     let step : (length c.if-key-number.rows ≡ length a.rows.now) × (length c.if-key-number.links ≡ length a.links.now)
     × Gathers a.number attempt (module_of facts) (l.i + 1) keys a.rows.now a.links.now c.if-key-number.rows c.if-key-number.links =
     elim c.if-key-number.branch [
-    then-key-number w ↦ (let e = w.gather_one.ensures in rw (w.rows-is, w.links-is) (
-      e.same_but.0.lengths ∙ l.invariant.1,
-      e.same_but.1.lengths ∙ l.invariant.2,
-      gathers_more a.number attempt (module_of facts) keys a.rows.now a.links.now l.i l.rows l.links l.invariant.3
-          _ _ e.same_but w.if-key-number.true e.row_of e.link_of,
-    ))
-    | else-key-number w ↦ rw (w.rows-is, w.links-is) (
-      l.invariant.1,
-      l.invariant.2,
-      gathers_other a.number attempt (module_of facts) keys a.rows.now a.links.now l.i l.rows l.links l.invariant.3
-          w.if-key-number.false,
-    ) ] in
+      | then-key-number w ↦ (let e = w.gather_one.ensures in rw (w.rows-is, w.links-is) (
+        e.same_but.0.lengths ∙ l.invariant.1,
+        e.same_but.1.lengths ∙ l.invariant.2,
+        gathers_more a.number attempt (module_of facts) keys a.rows.now a.links.now l.i l.rows l.links l.invariant.3
+            _ _ e.same_but w.if-key-number.true e.row_of e.link_of,
+      ))
+      | else-key-number w ↦ rw (w.rows-is, w.links-is) (
+        l.invariant.1,
+        l.invariant.2,
+        gathers_other a.number attempt (module_of facts) keys a.rows.now a.links.now l.i l.rows l.links l.invariant.3
+            w.if-key-number.false,
+      )
+    ] in
     (omega (arith, c.loop-i-test.true), step.0, step.1, step.2)
 
 pub returns : goal.returns

@@ -32,4 +32,4 @@ walk_used-requires c = let d = c.args.out.now in
 pub returns : goal.returns
 returns c = let d = c.args.out.now in let u = c.used-end.ensures in
     let l : length (take (used_of (length d)) d) ≡ used_of (length d) = length-take-le (used_of (length d)) d (used_within (length d)) in
-    let m = rw u at c.walk_used.ensures in record { value = rw l at m.0; out_after = rw u (walk-part (asked (goal.at.returns c).Start) d _ m.1) }
+    let m = rw u at c.walk_used.ensures in record { value = rw l at m.value; out_after = rw u (walk-part (asked (goal.at.returns c).Start) d _ m.out_after) }
