@@ -27,7 +27,7 @@ use Rattle.captures.specs.Attempts.{and_then, comments}
 use Rattle.captures.specs.Effects.{recorded}
 use Rattle.matcher.specs.FileFacts.{derefs_from}
 use Rattle.prepared.specs.Placeholders.{all_hold, constraints_of}
-use Rattle.matching.specs.Matching.{matchNode, matchByKind, matchSequences, matchOpt, matchPath, matchSegments, matchMethodCall, matchReceiver, matchArguments}
+use Rattle.matching.specs.Matching.{match_node, match_by_kind, match_sequences, match_opt, match_path, match_segments, match_method_call, match_receiver, match_arguments}
 use Rattle.get_match.specs.Templates.{renders_below}
 use Rattle.candidates.specs.Candidates.{candidates_of, has, any_bad, is_twice, each}
 use Rattle.parses.specs.Ranges.{ranges_of, are_ranges, is_among}
@@ -58,8 +58,8 @@ unfolding lowest first_of in_turn same_text part tokens_from is_token_list all_t
     raw_code trim_start trim_end stand_in_index size depth words tiles formed is_tree_of has_element find_node first_token only_ident or_else element_at ancestors
     facts_of are_fact_words are_facts fact_index has_repeated has_gap is_fact_list before are_rows total is_directory pairs_of pair_at any kept rules_from rule_at
     pair_fails contains_type_arguments contains_placeholder step is_unresolved resolved_paths claims last_note skip_tokens and_then comments recorded
-    derefs_from all_hold constraints_of matchNode matchByKind matchSequences matchOpt matchPath matchSegments matchMethodCall matchReceiver
-    matchArguments renders_below candidates_of has any_bad is_twice each ranges_of are_ranges is_among parts_from parses_of are_parses is_parse_list lookup
+    derefs_from all_hold constraints_of match_node match_by_kind match_sequences match_opt match_path match_segments match_method_call match_receiver
+    match_arguments renders_below candidates_of has any_bad is_twice each ranges_of are_ranges is_among parts_from parses_of are_parses is_parse_list lookup
     is_repeated has_range requires wrapped matches holder among come nest places.before insert items tokens_of render concat binding_at parts_of ◌then◌
     traces_of match_trace filled_trace list_trace
 starred =

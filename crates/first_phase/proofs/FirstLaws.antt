@@ -10,7 +10,7 @@ use Rattle.captures.specs.Attempts.{Attempt, failed, matched, and_then, given}
 use Rattle.matcher.specs.Matcher.{Matcher, slot_of, is_a_call, is_resolved}
 use Rattle.matcher.specs.Tokens.{matches_token, after_token, note}
 use Rattle.calls.specs.Calls.{call_of, first_fits, same_resolution, same_function}
-use Rattle.matching.specs.Matching.{capture, matchNode, matchByKind, matchSequences, matchPath, matchSegments, matchUfcs, matchMethodCall}
+use Rattle.matching.specs.Matching.{capture, match_node, match_by_kind, match_sequences, match_path, match_segments, match_ufcs, match_method_call}
 use Rattle.first_phase.specs.declared.checking.Check.{Check}
 use Rattle.first_phase.specs.declared.checking.Check.TheVariants.{Fails, Below, Passes}
 use Rattle.first_phase.specs.FirstPhase.{NodeFails, KindFails, SiblingsFail, Says, NodesCheck, KindCheck}
@@ -65,7 +65,7 @@ fails_then b = refl
 module _ (x : Matcher) (p c : Elems) (other : ltb (slot_of x p) 8 ≡ false) where
   -- a method call of another function
   pub method_fails : (is_a_call (call_of x p) && node_in 65 65 c) ≡ true → same_function x p c ≡ false → NodeFails x p c
-  unfolding matchNode matchMethodCall
+  unfolding match_node match_method_call
   method_fails t f zero = refl
   method_fails t f (suc zero) = rw (other, t)
   method_fails t f (suc (suc n)) = rw (other, t, f) (fails_then _)
@@ -73,7 +73,7 @@ module _ (x : Matcher) (p c : Elems) (other : ltb (slot_of x p) 8 ≡ false) whe
   module _ (method : (is_a_call (call_of x p) && node_in 65 65 c) ≡ false) where
     -- a call
     pub call_below : (is_a_call (call_of x p) && node_in 64 64 c) ≡ true → SiblingsFail x (children p) (children c) → NodeFails x p c
-    unfolding matchNode matchUfcs
+    unfolding match_node match_ufcs
     call_below t f zero = refl
     call_below t f (suc zero) = rw (other, method, t)
     call_below t f (suc (suc n)) = rw (other, method, t, f n) (then_fails (given (first_fits x p c)))
@@ -81,13 +81,13 @@ module _ (x : Matcher) (p c : Elems) (other : ltb (slot_of x p) 8 ≡ false) whe
     module _ (call : (is_a_call (call_of x p) && node_in 64 64 c) ≡ false) where
       -- nodes of two kinds
       pub kinds_fail : eqb (kind_of p) (kind_of c) ≡ false → NodeFails x p c
-      unfolding matchNode
+      unfolding match_node
       kinds_fail t zero = refl
       kinds_fail t (suc n) = rw (other, method, call, t)
 
       -- and of one
       pub kind_fails : eqb (kind_of p) (kind_of c) ≡ true → KindFails x p c → NodeFails x p c
-      unfolding matchNode
+      unfolding match_node
       kind_fails t f zero = refl
       kind_fails t f (suc n) = rw (other, method, call, t) (f n)
 
@@ -126,20 +126,20 @@ kinds_outside x p c other low high is out a b calls =
 module _ (x : Matcher) (p c : Elems) (list : eqb (kind_of c) 8 ≡ false) (trees : eqb (kind_of c) 1 ≡ false) where
   -- a path that refers to something else
   pub path_fails : eqb (kind_of c) 2 ≡ true → is_resolved (x.path_at (number_of p)) ≡ true → same_resolution x p c ≡ false → KindFails x p c
-  unfolding matchByKind matchPath
+  unfolding match_by_kind match_path
   path_fails t r f zero = refl
   path_fails t r f (suc zero) = rw (list, trees, t)
-  path_fails t r f (suc (suc n)) = rw (list, trees, t, r, f) (then_fails (matchSegments n x (first_child 3 p) (first_child 3 c)))
+  path_fails t r f (suc (suc n)) = rw (list, trees, t, r, f) (then_fails (match_segments n x (first_child 3 p) (first_child 3 c)))
 
   -- a path that is not resolved, and any other node
   pub path-below : eqb (kind_of c) 2 ≡ true → is_resolved (x.path_at (number_of p)) ≡ false → SiblingsFail x (children p) (children c) → KindFails x p c
-  unfolding matchByKind matchPath
+  unfolding match_by_kind match_path
   path-below t r f zero = refl
   path-below t r f (suc zero) = rw (list, trees, t)
   path-below t r f (suc (suc n)) = rw (list, trees, t, r) (f n)
 
   pub node_below : eqb (kind_of c) 2 ≡ false → SiblingsFail x (children p) (children c) → KindFails x p c
-  unfolding matchByKind
+  unfolding match_by_kind
   node_below t f zero = refl
   node_below t f (suc n) = rw (list, trees, t) (f n)
 
@@ -152,39 +152,39 @@ module _ (x : Matcher) (p c : Elems) (list : eqb (kind_of c) 8 ≡ false) (trees
 module _ (x : Matcher) (p c : Elems) where
   -- the code has none, and the pattern has
   pub end_fails : some c ≡ false → some (skip_trivia p) ≡ true → SiblingsFail x p c
-  unfolding matchSequences
+  unfolding match_sequences
   end_fails s t zero = refl
   end_fails s t (suc n) = rw (s, t)
 
   module _ (here : some c ≡ true) where
     pub trivia_passes : is_trivia c ≡ true → SiblingsFail x (skip_trivia p) (rest c) → SiblingsFail x p c
-    unfolding matchSequences
+    unfolding match_sequences
     trivia_passes t f zero = refl
     trivia_passes t f (suc n) = rw (here, t, f n) (then_fails (note x.text c))
 
     module _ (fixed : is_trivia c ≡ false) where
       pub token_fails : is_a_token c ≡ true → matches_token x.sheet x.code x.text (skip_trivia p) c ≡ false → SiblingsFail x p c
-      unfolding matchSequences
+      unfolding match_sequences
       token_fails t f zero = refl
       token_fails t f (suc n) = rw (here, fixed, t, f) (fails_then _)
 
       pub token-passes : is_a_token c ≡ true → SiblingsFail x (after_token x.sheet (skip_trivia p) c) (rest c) → SiblingsFail x p c
-      unfolding matchSequences
+      unfolding match_sequences
       token-passes t f zero = refl
       token-passes t f (suc n) = rw (here, fixed, t, f n) (then_fails _)
 
       module _ (token : is_a_token c ≡ false) where
         pub absent_fails : is_a_node (skip_trivia p) ≡ false → SiblingsFail x p c
-        unfolding matchSequences
+        unfolding match_sequences
         absent_fails t zero = refl
         absent_fails t (suc n) = rw (here, fixed, token, t) (fails_then _)
 
         pub node_fails : NodeFails x (skip_trivia p) c → SiblingsFail x p c
-        unfolding matchSequences
+        unfolding match_sequences
         node_fails f zero = refl
-        node_fails f (suc n) = rw (here, fixed, token, f n, fails_then (matchSequences n x (rest (skip_trivia p)) (rest c))) (then_fails _)
+        node_fails f (suc n) = rw (here, fixed, token, f n, fails_then (match_sequences n x (rest (skip_trivia p)) (rest c))) (then_fails _)
 
         pub node_passes : SiblingsFail x (rest (skip_trivia p)) (rest c) → SiblingsFail x p c
-        unfolding matchSequences
+        unfolding match_sequences
         node_passes f zero = refl
-        node_passes f (suc n) = rw (here, fixed, token, f n, then_fails (matchNode n x (skip_trivia p) c)) (then_fails _)
+        node_passes f (suc n) = rw (here, fixed, token, f n, then_fails (match_node n x (skip_trivia p) c)) (then_fails _)

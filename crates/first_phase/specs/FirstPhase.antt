@@ -6,19 +6,19 @@ use Rattle.syntax.specs.Trees.{Elems, elems}
 use Rattle.syntax.specs.Accessors.{children}
 use Rattle.captures.specs.Attempts.{failed}
 use Rattle.matcher.specs.Matcher.{Matcher}
-use Rattle.matching.specs.Matching.{matchNode, matchByKind, matchSequences}
+use Rattle.matching.specs.Matching.{match_node, match_by_kind, match_sequences}
 use Rattle.first_phase.specs.declared.checking.Check.{Check}
 use Rattle.first_phase.specs.declared.checking.Check.TheVariants.{Fails, Below, Passes}
 use Rattle.first_phase.specs.declared.checking.Turn.{Turn}
 
 abbrev pub NodeFails : Matcher → Elems → Elems → Type 0
-NodeFails x p c = (n : ℕ) → matchNode n x p c ≡ failed
+NodeFails x p c = (n : ℕ) → match_node n x p c ≡ failed
 
 abbrev pub KindFails : Matcher → Elems → Elems → Type 0
-KindFails x p c = (n : ℕ) → matchByKind n x p c ≡ failed
+KindFails x p c = (n : ℕ) → match_by_kind n x p c ≡ failed
 
 abbrev pub SiblingsFail : Matcher → Elems → Elems → Type 0
-SiblingsFail x p c = (n : ℕ) → matchSequences n x p c ≡ failed
+SiblingsFail x p c = (n : ℕ) → match_sequences n x p c ≡ failed
 
 -- what a check says of something: it fails, or it does if something below it does, or if something behind it does
 pub record Says (r : Check) (Whole Under After : Type 0) : Type 0 where

@@ -7,7 +7,7 @@ ghost use Rattle.siblings.specs.Siblings.{is_a_node};
 ghost use Rattle.captures.specs.Attempts.{failed};
 ghost use Rattle.matcher.specs.Matcher.{matcher_of};
 ghost use Rattle.matcher.specs.declared.marks.Context.{Context};
-ghost use Rattle.matching.specs.Matching.{matchNode};
+ghost use Rattle.matching.specs.Matching.{match_node};
 
 use matcher::marks;
 use std::num::{wrapping_add_u32, wrapping_sub_u32};
@@ -24,7 +24,7 @@ pub struct Kinds {
 // Those that hold all that a pattern's root can match: any, where it is a placeholder, the kinds of calls too, where it is a call, and its own.
 pub fn kinds_of(p: &[u32], marks: &[u32]) -> Kinds
     requires { 3 ≤ length p.now }
-    ensures { (rule file words facts : List ℕ) (cx : Context) (n : ℕ) (c : Elems) → is_a_node c ≡ true → node_in result.low result.high c ≡ false → matchNode n (matcher_of rule file marks.now words facts cx) (elems 0 p.now) c ≡ failed }
+    ensures { (rule file words facts : List ℕ) (cx : Context) (n : ℕ) (c : Elems) → is_a_node c ≡ true → node_in result.low result.high c ≡ false → match_node n (matcher_of rule file marks.now words facts cx) (elems 0 p.now) c ≡ failed }
 {
     if marks::slot_at(marks, 0) < 8 {
         return Kinds { low: 1, high: 4095 };

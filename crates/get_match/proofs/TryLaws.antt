@@ -21,7 +21,7 @@ use Rattle.captures.specs.declared.State.{State}
 use Rattle.captures.specs.declared.Answer.{Answer}
 use Rattle.captures.proofs.AttemptLaws.{given_true, given_false}
 use Rattle.matcher.specs.Matcher.{Matcher}
-use Rattle.matching.specs.Matching.{matchNode, NodeGives}
+use Rattle.matching.specs.Matching.{match_node, NodeGives}
 use Rattle.matching.proofs.StepLaws.{same_gives}
 use Rattle.matching.proofs.GiveLaws.{gives_no, first_fails, test_fails, test_holds}
 use Rattle.first_phase.specs.FirstPhase.{NodeFails}
@@ -79,10 +79,10 @@ module _ (x : Matcher) (p l facts c : List ℕ) (asked : Asked) (at : elems aske
 
   module _ (s : State) (r : Answer) (out' : List ℕ) (inside : is_within asked.range (elems asked.node c) ≡ true) (short : length c ≤ length l) (starts : s ≡ nothing)
       (g : NodeGives x 0 p asked.node c s out r out') (enough : 5 * (length p + length l) + 2 < n) where
-    node_gives : Gives (matchNode n x (tree p) (node_asked asked l)) nothing out r out'
+    node_gives : Gives (match_node n x (tree p) (node_asked asked l)) nothing out r out'
     node_gives = rw (at, starts) at (g n (omega arith))
 
-    inside_gives : (r' : Answer) → Gives (and_then (matchNode n x (tree p) (node_asked asked l)) (given (can_render asked facts side root))) nothing out r' out'
+    inside_gives : (r' : Answer) → Gives (and_then (match_node n x (tree p) (node_asked asked l)) (given (can_render asked facts side root))) nothing out r' out'
         → Gives (tried n x p l asked facts side root) nothing out r' out'
     inside_gives r' = same_gives (rw (← at, inside) (given_true _))
 

@@ -6,7 +6,7 @@ use Rattle.syntax.specs.Trees.{Elems}
 use Rattle.syntax.specs.Accessors.{range_of}
 use Rattle.captures.specs.Attempts.{Attempt, and_then, given}
 use Rattle.matcher.specs.Matcher.{Matcher}
-use Rattle.matching.specs.Matching.{matchNode}
+use Rattle.matching.specs.Matching.{match_node}
 use Rattle.checks.specs.declared.Restriction.{Restriction}
 
 -- `restrict_range`, where one is given: both ends may be the node's own
@@ -15,4 +15,4 @@ is_within r c = not r.given || (leb r.start (range_of c).start && leb (range_of 
 
 -- `try_match`: the pattern's root, the node, and whether the template's paths can be rendered there
 abbrev pub try_match : ℕ → Matcher → Elems → Restriction → Elems → Bool → Attempt
-try_match n x root range c renders = and_then (given (is_within range c)) (and_then (matchNode n x root c) (given renders))
+try_match n x root range c renders = and_then (given (is_within range c)) (and_then (match_node n x root c) (given renders))

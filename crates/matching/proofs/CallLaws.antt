@@ -21,7 +21,7 @@ use Rattle.matcher.specs.declared.file_facts.Derefs.{Derefs}
 use Rattle.matcher.specs.Matcher.{Matcher, is_typed}
 use Rattle.matcher.specs.FileFacts.{takes_self}
 use Rattle.calls.specs.Calls.{call_of, arguments_of, argument_of, receiver_of, derefs_of, same_function, takes_receiver, receiver_fits, prefix, prefixed, arguments_left}
-use Rattle.matching.specs.Matching.{matchNode, matchOpt, matchMethodCall, matchReceiver, matchArguments, OptGives, MethodCallGives, ReceiverGives, ArgumentsGive}
+use Rattle.matching.specs.Matching.{match_node, match_opt, match_method_call, match_receiver, match_arguments, OptGives, MethodCallGives, ReceiverGives, ArgumentsGive}
 use Rattle.matching.proofs.StepLaws.{by_suc, same_gives}
 use Rattle.matching.proofs.PlaceLaws.{some_long, some_short}
 use Rattle.matching.proofs.GiveLaws.{gives_no, first_fails, both_match}
@@ -34,42 +34,42 @@ then_failed (matched es) = refl
 
 module _ (x : Matcher) (p c : Elems) (n : ℕ) where
   method-receives : same_function x p c ≡ true → some (first_child 7 p) ≡ true → some (first_child 7 c) ≡ true → takes_receiver x p c ≡ true
-      → matchMethodCall (suc n) x p c ≡ and_then (matchReceiver n x p c) (matchArguments n x (rest (argument_of p)) (arguments_of c))
-  unfolding matchNode
-  method-receives f a b t = rw (f, a, b, t, given_true (matchArguments n x (rest (argument_of p)) (arguments_of c)))
-      (given_true (and_then (matchReceiver n x p c) (matchArguments n x (rest (argument_of p)) (arguments_of c))))
+      → match_method_call (suc n) x p c ≡ and_then (match_receiver n x p c) (match_arguments n x (rest (argument_of p)) (arguments_of c))
+  unfolding match_node
+  method-receives f a b t = rw (f, a, b, t, given_true (match_arguments n x (rest (argument_of p)) (arguments_of c)))
+      (given_true (and_then (match_receiver n x p c) (match_arguments n x (rest (argument_of p)) (arguments_of c))))
 
   method_leaves : same_function x p c ≡ true → some (first_child 7 p) ≡ true → some (first_child 7 c) ≡ true → takes_receiver x p c ≡ false
-      → matchMethodCall (suc n) x p c ≡ matchArguments n x (arguments_of p) (arguments_of c)
-  unfolding matchNode
-  method_leaves f a b t = rw (f, a, b, t, given_true (matchArguments n x (arguments_of p) (arguments_of c)), then_nothing (matchArguments n x (arguments_of p) (arguments_of c)))
-      (given_true (matchArguments n x (arguments_of p) (arguments_of c)))
+      → match_method_call (suc n) x p c ≡ match_arguments n x (arguments_of p) (arguments_of c)
+  unfolding match_node
+  method_leaves f a b t = rw (f, a, b, t, given_true (match_arguments n x (arguments_of p) (arguments_of c)), then_nothing (match_arguments n x (arguments_of p) (arguments_of c)))
+      (given_true (match_arguments n x (arguments_of p) (arguments_of c)))
 
-  method-other : same_function x p c ≡ false → matchMethodCall (suc n) x p c ≡ failed
-  unfolding matchNode
+  method-other : same_function x p c ≡ false → match_method_call (suc n) x p c ≡ failed
+  unfolding match_node
   method-other f = rw (f) (given_false _)
 
-  method_listless : some (first_child 7 p) ≡ false → matchMethodCall (suc n) x p c ≡ failed
-  unfolding matchNode
+  method_listless : some (first_child 7 p) ≡ false → match_method_call (suc n) x p c ≡ failed
+  unfolding match_node
   method_listless a = by (same_function x p c) refl
     where
-      by : (b : Bool) → same_function x p c ≡ b → matchMethodCall (suc n) x p c ≡ failed
+      by : (b : Bool) → same_function x p c ≡ b → match_method_call (suc n) x p c ≡ failed
       by true e = rw (e, a) (given_false _)
       by false e = rw (e) (given_false _)
 
-  method_code_listless : some (first_child 7 c) ≡ false → matchMethodCall (suc n) x p c ≡ failed
-  unfolding matchNode
+  method_code_listless : some (first_child 7 c) ≡ false → match_method_call (suc n) x p c ≡ failed
+  unfolding match_node
   method_code_listless b =
-      rw (b, given_false (matchArguments n x (arguments_left x p c) (arguments_of c)), then_failed (cond (takes_receiver x p c) (matchReceiver n x p c) (matched [])))
+      rw (b, given_false (match_arguments n x (arguments_left x p c) (arguments_of c)), then_failed (cond (takes_receiver x p c) (match_receiver n x p c) (matched [])))
       (then_failed (given (same_function x p c && some (first_child 7 p))))
 
-  receiver_fits_lem : receiver_fits x p c ≡ true → matchReceiver (suc n) x p c ≡ and_then (matchOpt n x (argument_of p) (receiver_of c)) (prefixed x p c)
-  unfolding matchNode
-  receiver_fits_lem h = rw (h) (given_true (and_then (matchOpt n x (argument_of p) (receiver_of c)) (prefixed x p c)))
+  receiver_fits_lem : receiver_fits x p c ≡ true → match_receiver (suc n) x p c ≡ and_then (match_opt n x (argument_of p) (receiver_of c)) (prefixed x p c)
+  unfolding match_node
+  receiver_fits_lem h = rw (h) (given_true (and_then (match_opt n x (argument_of p) (receiver_of c)) (prefixed x p c)))
 
-  receiver_other : receiver_fits x p c ≡ false → matchReceiver (suc n) x p c ≡ failed
-  unfolding matchNode
-  receiver_other h = rw (h) (given_false (and_then (matchOpt n x (argument_of p) (receiver_of c)) (prefixed x p c)))
+  receiver_other : receiver_fits x p c ≡ false → match_receiver (suc n) x p c ≡ failed
+  unfolding match_node
+  receiver_other h = rw (h) (given_false (and_then (match_opt n x (argument_of p) (receiver_of c)) (prefixed x p c)))
 
 either : (a b : Bool) → (a || b) ≡ true → {P : Type 0} → (a ≡ true → P) → (b ≡ true → P) → P
 either true b e f g = f refl

@@ -20,7 +20,7 @@ use Rattle.captures.proofs.AttemptLaws.{gives_event, gives_done, gives_failed, g
 use Rattle.matcher.specs.Matcher.{Matcher, slot_of}
 use Rattle.matcher.specs.Tokens.{matches_token, after_token, note}
 use Rattle.matcher.proofs.TokenLaws.{pass_more}
-use Rattle.matching.specs.Matching.{matchNode, matchSequences, NodeGives, SequencesGive}
+use Rattle.matching.specs.Matching.{match_node, match_sequences, NodeGives, SequencesGive}
 use Rattle.matching.proofs.StepLaws.{by_suc, same_gives, node_takes, sequence_trivia, sequence_token, sequence_other-token, sequence_node, sequence_other}
 
 -- a failed attempt is answered by no match, whatever was laid
@@ -34,14 +34,14 @@ gives_same {a} {s} {out} {r} e f = same_gives e (rw (f) (gives_done s out))
 -- ---- nodes: a placeholder's constraints allow the code's node, or not
 module _ (x : Matcher) (p c : Elems) (s : State) (out : List ℕ) (m slot : ℕ) (r : Answer) where
   pub node_bound : (t : State) → slot_of x p ≡ slot → ltb (slot_of x p) 8 ≡ true → x.allows slot (node_in 66 66 c) ≡ true
-      → t ≡ recorded_one (length out) (Bound slot (binding c c 0 0)) s → r ≡ record { ok = true; state = t } → Gives (matchNode (suc m) x p c) s out r out
+      → t ≡ recorded_one (length out) (Bound slot (binding c c 0 0)) s → r ≡ record { ok = true; state = t } → Gives (match_node (suc m) x p c) s out r out
   node_bound t e l a b f = same_gives taken (rw (f, b) (gives_event (Bound slot (binding c c 0 0)) s out))
     where
-      taken : matchNode (suc m) x p c ≡ matched (Bound slot (binding c c 0 0) ∷ [])
+      taken : match_node (suc m) x p c ≡ matched (Bound slot (binding c c 0 0) ∷ [])
       taken = node_takes x p c m l ∙ rw (e, a)
 
   pub node_barred : slot_of x p ≡ slot → ltb (slot_of x p) 8 ≡ true → x.allows slot (node_in 66 66 c) ≡ false → r ≡ no_match
-      → Gives (matchNode (suc m) x p c) s out r out
+      → Gives (match_node (suc m) x p c) s out r out
   node_barred e l a f = gives_no (node_takes x p c m l ∙ rw (e, a)) f refl
 
 -- ---- one attempt and then another
@@ -69,7 +69,7 @@ module _ (x : Matcher) (pe : ℕ) (p : List ℕ) (ce : ℕ) (c : List ℕ) (s : 
     (inside : k * 3 ≤ length p) (within : (1 ≤ n) × (n * 3 ≤ length c)) (some-code : some (elems ce c) ≡ true) where
   -- it goes on: what is left is shorter, and is what the definition goes on with
   goes_on : (j : ℕ) (ps : Elems) (t : State) (out' : List ℕ) → j * 3 ≤ length p → elems (pe + j) (drop (j * 3) p) ≡ ps
-      → ((m : ℕ) → 5 * (length p + length c) + 3 ≤ m → (a : Answer) (end : List ℕ) → Gives (matchSequences m x ps (rest (elems ce c))) t out' a end → Gives (matchSequences (suc m) x (elems pe p) (elems ce c)) s out a end)
+      → ((m : ℕ) → 5 * (length p + length c) + 3 ≤ m → (a : Answer) (end : List ℕ) → Gives (match_sequences m x ps (rest (elems ce c))) t out' a end → Gives (match_sequences (suc m) x (elems pe p) (elems ce c)) s out a end)
       → TurnOf (SequencesGive x) (SequencesGive x) pe p ce c s out (record { go = true; p = j; c = n; state = t }) out'
   goes_on j ps t out' there e f = record {
     goes = λ _ a end g. by_suc _ (λ m h. f m (omega (arith, h)) a end (rw (← e, ← passes ce) (g m (omega (arith, h, within.0, within.1, there, length-drop (j * 3) p, length-drop (n * 3) c)))));
@@ -77,7 +77,7 @@ module _ (x : Matcher) (pe : ℕ) (p : List ℕ) (ce : ℕ) (c : List ℕ) (s : 
   }
 
   -- it stops
-  stops_here : (out' : List ℕ) → length out' ≡ length out → ((m : ℕ) → 5 * (length p + length c) + 3 ≤ m → Gives (matchSequences (suc m) x (elems pe p) (elems ce c)) s out no_match out')
+  stops_here : (out' : List ℕ) → length out' ≡ length out → ((m : ℕ) → 5 * (length p + length c) + 3 ≤ m → Gives (match_sequences (suc m) x (elems pe p) (elems ce c)) s out no_match out')
       → TurnOf (SequencesGive x) (SequencesGive x) pe p ce c s out stopped out'
   stops_here out' l f = record {
     goes = λ e. absurd (true≢false (sym e));

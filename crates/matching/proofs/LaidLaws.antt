@@ -27,7 +27,7 @@ use Rattle.matcher.proofs.TokenLaws.{pass_more}
 use Rattle.record_fields.specs.Fields.{pattern_name}
 use Rattle.record_fields.specs.declared.Field.{Field}
 use Rattle.ordered_fields.specs.Order.{next, partner, AsksFor}
-use Rattle.matching.specs.Matching.{matchNode, matchSequences, matchOpt, NodeGives, SequencesGive, NotedGives, Went, Stands}
+use Rattle.matching.specs.Matching.{match_node, match_sequences, match_opt, NodeGives, SequencesGive, NotedGives, Went, Stands}
 use Rattle.matching.proofs.StepLaws.{by_suc, same_gives, sequence_node, opt_both}
 use Rattle.matching.proofs.PlaceLaws.{some_long, node_long}
 use Rattle.matching.proofs.GiveLaws.{both_match}
@@ -90,28 +90,28 @@ module _ (x : Matcher) (pe : ℕ) (ps : List ℕ) (at : ℕ) (ce : ℕ) (cs : Li
 
     -- the pair matches by name
     abbrev first_of : (n : ℕ) → 5 * (length ps + length cs) + 4 < n → List Event
-    first_of n k = (parts (λ y e. matchOpt n x y e) x (elems pe ps) (elems ce cs) Pat before from s out (stands n k) is_before is_plain four.1).first
+    first_of n k = (parts (λ y e. match_opt n x y e) x (elems pe ps) (elems ce cs) Pat before from s out (stands n k) is_before is_plain four.1).first
 
-    pair_matches : (n : ℕ) (k : 5 * (length ps + length cs) + 4 < n) → matchOpt n x (skip_trivia Pat) (partner x (elems ce cs) (skip_trivia Pat)) ≡
+    pair_matches : (n : ℕ) (k : 5 * (length ps + length cs) + 4 < n) → match_opt n x (skip_trivia Pat) (partner x (elems ce cs) (skip_trivia Pat)) ≡
         matched (first_of n k)
-    pair_matches n k = named_matches (λ y e. matchOpt n x y e) x (elems pe ps) (elems ce cs) Pat before from s out (stands n k) is_before is_plain
+    pair_matches n k = named_matches (λ y e. match_opt n x y e) x (elems pe ps) (elems ce cs) Pat before from s out (stands n k) is_before is_plain
         four.1 four.3
 
   -- ---- measuring did not fail, and changed nothing of the buffer
   abbrev enough_at : ℕ → ℕ
   enough_at j = 5 * (length (drop ((at + skip) * 3) ps) + length (drop (j * 3) cs)) + 3
 
-  noted_by : f.named ≡ true → (n : ℕ) → enough_at f.c < n → Gives (matchOpt n x (skip_trivia Pat) (partner x (elems ce cs) (skip_trivia Pat)))
+  noted_by : f.named ≡ true → (n : ℕ) → enough_at f.c < n → Gives (match_opt n x (skip_trivia Pat) (partner x (elems ce cs) (skip_trivia Pat)))
       (moved_to from false s) out m out₁
   noted_by h n k = subst (λ (a : Attempt). Gives a (moved_to from false s) out m out₁)
-      (ap (λ (b : Bool). cond b (matchOpt n x (elems (pe + (at + skip)) (drop ((at + skip) * 3) ps)) (elems (ce + f.c) (drop (f.c * 3) cs)))
+      (ap (λ (b : Bool). cond b (match_opt n x (elems (pe + (at + skip)) (drop ((at + skip) * 3) ps)) (elems (ce + f.c) (drop (f.c * 3) cs)))
       (matched [])) h
-      ∙ ap (λ (y : Elems). matchOpt n x y (elems (ce + f.c) (drop (f.c * 3) cs))) asked_is ∙ ap (matchOpt n x (skip_trivia Pat)) (found_is_lem h))
+      ∙ ap (λ (y : Elems). match_opt n x y (elems (ce + f.c) (drop (f.c * 3) cs))) asked_is ∙ ap (match_opt n x (skip_trivia Pat)) (found_is_lem h))
       (noted n k)
 
   noted-none : f.named ≡ false → Gives (matched []) (moved_to from false s) out m out₁
   noted-none h = subst (λ (a : Attempt). Gives a (moved_to from false s) out m out₁)
-      (ap (λ (b : Bool). cond b (matchOpt (suc (enough_at f.c)) x (elems (pe + (at + skip)) (drop ((at + skip) * 3) ps)) (elems (ce + f.c) (drop
+      (ap (λ (b : Bool). cond b (match_opt (suc (enough_at f.c)) x (elems (pe + (at + skip)) (drop ((at + skip) * 3) ps)) (elems (ce + f.c) (drop
       (f.c * 3) cs))) (matched [])) h)
       (noted (suc (enough_at f.c)) (omega arith))
 
@@ -141,7 +141,7 @@ module _ (x : Matcher) (pe : ℕ) (ps : List ℕ) (at : ℕ) (ce : ℕ) (cs : Li
   noted_buffer = by_case (out₁ ≡ out) (λ h. (noted-matched h).buffer ∙ laid_silent (first_of h most (omega arith)) (moved_to from false s) out refl) (λ
       h. (noted-none h).buffer ∙ laid_silent [] (moved_to from false s) out refl)
 
-  end_measured : (n : ℕ) → 5 * (length ps + length cs) + 4 < n → (es : List Event) → f.named ≡ true → matchOpt n x (skip_trivia Pat) (partner x
+  end_measured : (n : ℕ) → 5 * (length ps + length cs) + 4 < n → (es : List Event) → f.named ≡ true → match_opt n x (skip_trivia Pat) (partner x
       (elems ce cs) (skip_trivia Pat)) ≡ matched es
       → m.state.noted ≡ noted_after (length out) es from
   end_measured n k es h e =
@@ -156,7 +156,7 @@ module _ (x : Matcher) (pe : ℕ) (ps : List ℕ) (at : ℕ) (ce : ℕ) (cs : Li
   -- what was measured stands before the place
   pub end_before : f.named ≡ true → m.state.noted ≤ s.noted
   end_before h =
-      let fit = first_fits_lem (λ y e. matchOpt most x y e) x (elems pe ps) (elems ce cs) Pat before from s out (stands most (omega arith)) (is_before h)
+      let fit = first_fits_lem (λ y e. match_opt most x y e) x (elems pe ps) (elems ce cs) Pat before from s out (stands most (omega arith)) (is_before h)
       (is_plain h) (four h).1 (fits_so_far h) in
       omega (
         arith,
@@ -176,7 +176,7 @@ module _ (x : Matcher) (pe : ℕ) (ps : List ℕ) (at : ℕ) (ce : ℕ) (cs : Li
   order_turn u out' turn h a end g =
       subst (λ (o : List ℕ). SequencesGive x (pe + at) (drop (at * 3) ps) (ce + i) (drop (i * 3) cs) s o a end) noted_buffer
       (rw (pl-is, d-is) at (turn.goes h a end) (λ n k. subst (λ (v : Attempt). Gives v u.state out' a end)
-      (ap (λ (y : Elems). matchSequences n x y (elems (ce + (i + u.c)) (drop ((i + u.c) * 3) cs))) (pass_more pe at u.p ps) ∙ ap (matchSequences
+      (ap (λ (y : Elems). match_sequences n x y (elems (ce + (i + u.c)) (drop ((i + u.c) * 3) cs))) (pass_more pe at u.p ps) ∙ ap (match_sequences
       n x (elems (pe + at + u.p) (drop (u.p * 3) (drop (at * 3) ps)))) (pass_more ce i u.c cs))
       (g n (omega (
         arith,
@@ -204,7 +204,7 @@ module _ (x : Matcher) (pe : ℕ) (ps : List ℕ) (at : ℕ) (ce : ℕ) (cs : Li
       u.state out'
   stands_turn u out' went₁ n k =
       let went : Went x (pe + at) pl (ce + i) d s out u out' = subst (λ (o : List ℕ). Went x (pe + at) pl (ce + i) d s o u out') noted_buffer went₁ in
-      stood_turn (λ y e. matchOpt n x y e) x (elems pe ps) (elems ce cs) Pat before from s out (stands n k) Cod _ on f.named m.state.noted
+      stood_turn (λ y e. match_opt n x y e) x (elems pe ps) (elems ce cs) Pat before from s out (stands n k) Cod _ on f.named m.state.noted
       u.state out' went.events
       goes_by (λ t. ap next (pass_more pe at u.p ps) ∙ rw (pl-is, d-is) at went.tokens t)
       (λ t. let v = rw (pl-is, d-is) at went.nodes t in (v.0, pass_more pe at u.p ps ∙ v.1)) asked_by (end_measured n k) end_plain
@@ -239,29 +239,29 @@ module _ (x : Matcher) (pe : ℕ) (ps : List ℕ) (at : ℕ) (ce : ℕ) (cs : Li
     some_d : some Cod ≡ true
     some_d = ap some (sym cod_is) ∙ some_long (ce + i) d long
 
-    node_by : (n : ℕ) → 5 * (length q + length d) + 2 < n → Acted (matchNode n x (skip_trivia Pat) Cod) (moved_to from false s) out m.state out₁
-    node_by n k = acted (matchNode n x (skip_trivia Pat) Cod) (moved_to from false s) out m out₁
-        (subst (λ (a : Attempt). Gives a (moved_to from false s) out m out₁) (ap (matchOpt (suc n) x (skip_trivia Pat)) partner_is ∙ opt_both x
+    node_by : (n : ℕ) → 5 * (length q + length d) + 2 < n → Acted (match_node n x (skip_trivia Pat) Cod) (moved_to from false s) out m.state out₁
+    node_by n k = acted (match_node n x (skip_trivia Pat) Cod) (moved_to from false s) out m out₁
+        (subst (λ (a : Attempt). Gives a (moved_to from false s) out m out₁) (ap (match_opt (suc n) x (skip_trivia Pat)) partner_is ∙ opt_both x
         (skip_trivia Pat) Cod n some_q some_d)
         (noted_by is_named_lem (suc n) (omega (arith, k, ap length q-is, ap length d-is, ap (λ (j : ℕ). length (drop (j * 3) cs)) same_place)))) noted_ok
 
-    most_node : matchNode (5 * (length ps + length cs) + 4) x (skip_trivia Pat) Cod ≡ matched es
+    most_node : match_node (5 * (length ps + length cs) + 4) x (skip_trivia Pat) Cod ≡ matched es
     unfolding es
-    most_node = sym (opt_both x (skip_trivia Pat) Cod (5 * (length ps + length cs) + 4) some_q some_d) ∙ ap (matchOpt most x (skip_trivia Pat)) (sym
+    most_node = sym (opt_both x (skip_trivia Pat) Cod (5 * (length ps + length cs) + 4) some_q some_d) ∙ ap (match_opt most x (skip_trivia Pat)) (sym
         partner_is) ∙ pair_matches is_named_lem most (omega arith)
 
-    node_matches : (n : ℕ) → 5 * (length q + length d) + 2 < n → matchNode n x (skip_trivia Pat) Cod ≡ matched es
-    node_matches n k = (node_by n k).matches ∙ ap matched (one-outcome (λ b. matchNode b x (skip_trivia Pat) Cod) (λ b b' o. more_node b b' o x
+    node_matches : (n : ℕ) → 5 * (length q + length d) + 2 < n → match_node n x (skip_trivia Pat) Cod ≡ matched es
+    node_matches n k = (node_by n k).matches ∙ ap matched (one-outcome (λ b. match_node b x (skip_trivia Pat) Cod) (λ b b' o. more_node b b' o x
         (skip_trivia Pat) Cod) n (5 * (length ps + length cs) + 4) (node_by n k).events es (node_by n k).matches most_node)
 
     stand_first : take (length (comments es)) (drop from out) ≡ comments es
     unfolding es
-    stand_first = first-stands (λ y e. matchOpt most x y e) x (elems pe ps) (elems ce cs) Pat before from s out (stands most (omega arith))
+    stand_first = first-stands (λ y e. match_opt most x y e) x (elems pe ps) (elems ce cs) Pat before from s out (stands most (omega arith))
         (is_before is_named_lem) (is_plain is_named_lem) (four is_named_lem).1 (fits_so_far is_named_lem)
 
     fit_first : from + length (comments es) ≤ s.noted
     unfolding es
-    fit_first = first_fits_lem (λ y e. matchOpt most x y e) x (elems pe ps) (elems ce cs) Pat before from s out (stands most (omega arith)) (is_before
+    fit_first = first_fits_lem (λ y e. match_opt most x y e) x (elems pe ps) (elems ce cs) Pat before from s out (stands most (omega arith)) (is_before
         is_named_lem) (is_plain is_named_lem) (four is_named_lem).1 (fits_so_far is_named_lem)
 
     end_first : m.state.noted ≡ from + length (comments es)
@@ -303,7 +303,7 @@ module _ (x : Matcher) (pe : ℕ) (ps : List ℕ) (at : ℕ) (ce : ℕ) (cs : Li
     pub stands_pair : (w : ℕ) → ((j : ℕ) → elems (j + w) (drop (w * 3) q) ≡ rest (elems j q)) → Stands on x pe ps (at + skip + w) ce cs
         m.state.noted t out₂
     stands_pair w passes n k =
-        stood_turn (λ y e. matchOpt n x y e) x (elems pe ps) (elems ce cs) Pat before from s out (stands n k) Cod _ on f.named m.state.noted t
+        stood_turn (λ y e. match_opt n x y e) x (elems pe ps) (elems ce cs) Pat before from s out (stands n k) Cod _ on f.named m.state.noted t
         out₂ es
         goes_by (λ v. absurd (true≢false (sym v ∙ laid-here.0))) (λ v. (laid-here.1, rest-q)) asked_by (end_measured n k) end_plain state_is
         buffer_is
@@ -318,7 +318,7 @@ module _ (x : Matcher) (pe : ℕ) (ps : List ℕ) (at : ℕ) (ce : ℕ) (cs : Li
         t out₂ a end
         → SequencesGive x (pe + at) (drop (at * 3) ps) (ce + i) (drop (i * 3) cs) s out a end
     laid_goes w n pass-q pass-d within a end l =
-        by_suc (λ b. Gives (matchSequences b x Pat Cod) s out a end) {k = 5 * (length (drop (at * 3) ps) + length (drop (i * 3) cs)) + 4} (λ b o.
+        by_suc (λ b. Gives (match_sequences b x Pat Cod) s out a end) {k = 5 * (length (drop (at * 3) ps) + length (drop (i * 3) cs)) + 4} (λ b o.
         same_gives (sequence_node x Pat Cod b some_d (no_trivia Cod laid-here.0) laid-here.0 laid-here.1)
         (both_match _ s out (record { ok = true; state = t }) out₂ a _ t end
         (rw (q_at, cod_is) at (laid_node b (omega (
@@ -330,8 +330,8 @@ module _ (x : Matcher) (pe : ℕ) (ps : List ℕ) (at : ℕ) (ce : ℕ) (cs : Li
           ap length
               d-is,
         )))) refl refl
-        (subst (λ (v : Attempt). Gives v t out₂ a end) (ap (λ (y : Elems). matchSequences b x y (elems (ce + (i + n)) (drop ((i + n) * 3) cs)))
-        rest-q ∙ ap (matchSequences b x (rest (skip_trivia Pat))) rest-d)
+        (subst (λ (v : Attempt). Gives v t out₂ a end) (ap (λ (y : Elems). match_sequences b x y (elems (ce + (i + n)) (drop ((i + n) * 3) cs)))
+        rest-q ∙ ap (match_sequences b x (rest (skip_trivia Pat))) rest-d)
         (l b (omega (
           arith,
           o,

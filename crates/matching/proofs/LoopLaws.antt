@@ -14,7 +14,7 @@ use Rattle.captures.specs.Effects.{no_match}
 use Rattle.captures.specs.declared.State.{State}
 use Rattle.captures.specs.declared.Answer.{Answer}
 use Rattle.matcher.specs.Matcher.{Matcher}
-use Rattle.matching.specs.Matching.{matchNode, matchOpt, matchArguments, SequencesGive, OptGives, ArgumentsGive}
+use Rattle.matching.specs.Matching.{match_node, match_opt, match_arguments, SequencesGive, OptGives, ArgumentsGive}
 use Rattle.matching.proofs.StepLaws.{by_suc, same_gives, sequence_end, arguments_end, arguments_turn}
 use Rattle.matching.proofs.PlaceLaws.{some_long, some_short}
 use Rattle.matching.proofs.GiveLaws.{gives_no, gives_same, first_fails, both_match}
@@ -34,8 +34,8 @@ module _ (x : Matcher) (pe : ℕ) (p : List ℕ) (ce : ℕ) (c : List ℕ) (s : 
       (sequence_end x (elems pe p) (elems ce c) m (some_short ce c end) ∙ ap (λ (b : Bool). given (not b)) (left_is true (some_long (pe + k) y h))) f refl)
 
 -- ---- arguments in turn
-opt_absent : (x : Matcher) (p c : Elems) (n : ℕ) → some p ≡ true → some c ≡ false → matchOpt n x p c ≡ failed
-unfolding matchNode
+opt_absent : (x : Matcher) (p c : Elems) (n : ℕ) → some p ≡ true → some c ≡ false → match_opt n x p c ≡ failed
+unfolding match_node
 opt_absent x p c zero h k = refl
 opt_absent x p c (suc n) h k = rw (h, k)
 
@@ -56,14 +56,14 @@ module _ (x : Matcher) (pe : ℕ) (p : List ℕ) (ce : ℕ) (c : List ℕ) (s : 
   arguments_done r h k f = by_suc _ (λ m g. gives_same
       (arguments_end x (elems pe p) (elems ce c) m (ap some (sym at_y) ∙ some_short (pe + j) y h) (ap some (sym at_z) ∙ some_short (ce + i) z k)) f)
 
-  absent : (m : ℕ) → 3 ≤ length y → length z < 3 → matchArguments (suc m) x (elems pe p) (elems ce c) ≡ failed
-  unfolding matchNode
+  absent : (m : ℕ) → 3 ≤ length y → length z < 3 → match_arguments (suc m) x (elems pe p) (elems ce c) ≡ failed
+  unfolding match_node
   absent m h k =
       rw (
         ap some (sym at_y) ∙ some_long (pe + j) y h,
         opt_absent x (find_expression (elems pe p)) (find_expression (elems ce c)) m (ap some (sym at_y) ∙ some_long (pe + j) y h)
             (ap some (sym at_z) ∙ some_short (ce + i) z k),
-      ) (failed-first (matchArguments m x (rest (find_expression (elems pe p))) (rest (find_expression (elems ce c)))))
+      ) (failed-first (match_arguments m x (rest (find_expression (elems pe p))) (rest (find_expression (elems ce c)))))
 
   pub arguments_more : (r : Answer) → 3 ≤ length y → length z < 3 → r ≡ no_match → ArgumentsGive x pe p ce c s out r out
   arguments_more r h k f = by_suc _ (λ m g. gives_no (absent m h k) f refl)

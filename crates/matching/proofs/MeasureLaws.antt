@@ -19,7 +19,7 @@ use Rattle.matcher.specs.Matcher.{Matcher, has_placeholder_name}
 use Rattle.token_trees.proofs.FuelLaws.{Below}
 use Rattle.ordered_fields.specs.Order.{next, partner, is_beside}
 use Rattle.matching.specs.StartingOver.{again, is_silent}
-use Rattle.matching.specs.Matching.{matchOpt, owed}
+use Rattle.matching.specs.Matching.{match_opt, owed}
 use Rattle.matching.proofs.AlongLaws.{next_past, next_here, next_trivia, again-next, again_cursor, again_stops, again_node}
 use Rattle.matching.proofs.TurnLaws.{Acted, acted}
 
@@ -108,7 +108,7 @@ module _ (left whole : ℕ → Attempt) (low high : ℕ) (more : (m n : ℕ) →
 
 module _ (x : Matcher) (cs p c p' c' : Elems) (before on : Bool) (m : ℕ) where
   abbrev f : Elems → Elems → Attempt
-  f q e = matchOpt m x q e
+  f q e = match_opt m x q e
 
   pub to_node : again f x cs p c ≡ again f x cs (skip_trivia p) c
   to_node = sym (again-next f x cs p c) ∙ ap (λ (q : Elems). again f x cs q c) (sym (next_trivia p)) ∙ again-next f x cs (skip_trivia p) c
@@ -135,6 +135,6 @@ module _ (x : Matcher) (cs p c p' c' : Elems) (before on : Bool) (m : ℕ) where
   -- and along a pair that was left out
   pub owed_pair : (es : List Event) → is_a_token c ≡ false → is_a_node (skip_trivia p) ≡ true → has_placeholder_name x (skip_trivia p) ≡ false → is_beside x cs
       (skip_trivia p) c ≡ true
-      → matchOpt m x (skip_trivia p) (partner x cs (skip_trivia p)) ≡ matched es
+      → match_opt m x (skip_trivia p) (partner x cs (skip_trivia p)) ≡ matched es
       → again f x cs p c ≡ notes es ++ again f x cs (rest (skip_trivia p)) (rest c)
   owed_pair es k n h b e = to_node ∙ again_node f x cs (skip_trivia p) c n h ∙ rw (b, e, next_here c k)

@@ -26,7 +26,7 @@ use Rattle.record_fields.specs.Fields.{pattern_name}
 use Rattle.record_fields.specs.declared.Field.{Field}
 use Rattle.ordered_fields.specs.Order.{next, partner, is_same, is_beside, AsksFor}
 use Rattle.matching.specs.StartingOver.{again, is_silent}
-use Rattle.matching.specs.Matching.{matchNode, matchSequences, matchOpt, SequencesGive, NodeGives, MeasuredGives, owed, Went}
+use Rattle.matching.specs.Matching.{match_node, match_sequences, match_opt, SequencesGive, NodeGives, MeasuredGives, owed, Went}
 use Rattle.matching.proofs.StepLaws.{by_suc, same_gives, sequence_end, sequence_node, opt_both}
 use Rattle.matching.proofs.PlaceLaws.{some_long, some_short, node_long}
 use Rattle.matching.proofs.GiveLaws.{gives_no, gives_same, first_fails}
@@ -73,8 +73,8 @@ module _ (x : Matcher) (pe : ℕ) (ps : List ℕ) (at : ℕ) (ce : ℕ) (cs : Li
   both_are : {a a' : Attempt} {zs zs' : List Event} → a ≡ a' → zs ≡ zs' → and_then a (matched zs) ≡ and_then a' (matched zs')
   both_are {a} {a'} {zs} {zs'} e f = ap (λ (v : Attempt). and_then v (matched zs)) e ∙ ap (λ (v : List Event). and_then a' (matched v)) f
 
-  join : {p p' c c' : Elems} {zs zs' : List Event} (b : ℕ) → p ≡ p' → c ≡ c' → zs ≡ zs' → and_then (matchSequences b x p c) (matched zs) ≡ and_then
-      (matchSequences b x p' c') (matched zs')
+  join : {p p' c c' : Elems} {zs zs' : List Event} (b : ℕ) → p ≡ p' → c ≡ c' → zs ≡ zs' → and_then (match_sequences b x p c) (matched zs) ≡ and_then
+      (match_sequences b x p' c') (matched zs')
   join b e f g = rw (e, f, g)
 
   -- ---- a turn
@@ -93,9 +93,9 @@ module _ (x : Matcher) (pe : ℕ) (ps : List ℕ) (at : ℕ) (ce : ℕ) (cs : Li
         → (a : Answer) (end : List ℕ) → MeasuredGives on x pe ps (at + u.p) ce cs (i + u.c) u.state out' a end → MeasuredGives before x pe ps at
         ce cs i s out a end
     measured_turn on h same a end g n m k l =
-        after_turn (λ b. matchSequences b x (elems (pe + at + u.p) (drop (u.p * 3) (drop (at * 3) ps))) (elems (ce + i + u.c) (drop (u.c * 3)
+        after_turn (λ b. match_sequences b x (elems (pe + at + u.p) (drop (u.p * 3) (drop (at * 3) ps))) (elems (ce + i + u.c) (drop (u.c * 3)
         (drop (i * 3) cs))))
-        (λ b. matchSequences b x Pat Cod) (5 * (length (drop (u.p * 3) (drop (at * 3) ps)) + length (drop (u.c * 3) (drop (i * 3) cs))) + 4)
+        (λ b. match_sequences b x Pat Cod) (5 * (length (drop (u.p * 3) (drop (at * 3) ps)) + length (drop (u.c * 3) (drop (i * 3) cs))) + 4)
         (5 * (length (drop (at * 3) ps) + length (drop (i * 3) cs)) + 4) (λ b b' o. more_sequences b b' o x _ _) s u.state out out'
         (rw (pl-is, d-is) at (turn.goes h)) (owed before m x (elems ce cs) Pat Cod) a end
         (λ b o. same_gives (join b (sym (pass_more pe at u.p ps)) (sym (pass_more ce i u.c cs)) (sym (same m)))
@@ -128,7 +128,7 @@ module _ (x : Matcher) (pe : ℕ) (ps : List ℕ) (at : ℕ) (ce : ℕ) (cs : Li
     pub measured_done : (r : Answer) → length d < 3 → length q < 3 → r ≡ record { ok = true; state = s } → MeasuredGives before x pe ps at ce cs i s
         out r out
     measured_done r h k f n m l o =
-        by_suc (λ b. Gives (and_then (matchSequences b x Pat Cod) (matched (owed before m x (elems ce cs) Pat Cod))) s out r out)
+        by_suc (λ b. Gives (and_then (match_sequences b x Pat Cod) (matched (owed before m x (elems ce cs) Pat Cod))) s out r out)
         (λ b _. gives_same (rw (
           sequence_end x Pat Cod b (ap some (sym cod_is) ∙ some_short (ce + i) d h),
           ap some (sym at_q) ∙ some_short (pe + (at
@@ -138,7 +138,7 @@ module _ (x : Matcher) (pe : ℕ) (ps : List ℕ) (at : ℕ) (ce : ℕ) (cs : Li
 
     pub measured_more : (r : Answer) → length d < 3 → 3 ≤ length q → r ≡ no_match → MeasuredGives before x pe ps at ce cs i s out r out
     measured_more r h k f n m l o =
-        by_suc (λ b. Gives (and_then (matchSequences b x Pat Cod) (matched (owed before m x (elems ce cs) Pat Cod))) s out r out)
+        by_suc (λ b. Gives (and_then (match_sequences b x Pat Cod) (matched (owed before m x (elems ce cs) Pat Cod))) s out r out)
         (λ b _. rw (f) (none_after _ _ s out out (gives_no (sequence_end x Pat Cod b (ap some (sym cod_is) ∙ some_short (ce + i) d h)
         ∙ ap (λ (v : Bool). given (not v)) (ap some (sym at_q) ∙ some_long (pe + (at + skip)) q k)) refl refl))) n l
 
@@ -214,7 +214,7 @@ module _ (x : Matcher) (pe : ℕ) (ps : List ℕ) (at : ℕ) (ce : ℕ) (cs : Li
             s out r out') where
           pub measured_pair_fails : r.ok ≡ false → (r' : Answer) → r' ≡ no_match → MeasuredGives before x pe ps at ce cs i s out r' out'
           measured_pair_fails e r' f' n m k l =
-              by_suc (λ b. Gives (and_then (matchSequences b x Pat Cod) (matched (owed before m x (elems ce cs) Pat Cod))) s out r' out')
+              by_suc (λ b. Gives (and_then (match_sequences b x Pat Cod) (matched (owed before m x (elems ce cs) Pat Cod))) s out r' out')
               {k = 5 * (length (drop (at * 3) ps) + length (drop (i * 3) cs)) + 4} (λ b o. rw (f') (none_after _ _ s out out' (same_gives
               (sequence_node x Pat Cod b (ap some (sym cod_is) ∙ some_long (ce + i) d long) pair_trivia pair_token pair_node)
               (first_fails _ s out r out' no_match _ (rw (at_q, cod_is) at (g b (omega (
@@ -227,10 +227,10 @@ module _ (x : Matcher) (pe : ℕ) (ps : List ℕ) (at : ℕ) (ce : ℕ) (cs : Li
               )))) e refl)))) n k
 
           module _ (ok : r.ok ≡ true) where
-            node_acted : (b : ℕ) → 5 * (length q + length d) + 2 < b → Acted (matchNode b x (skip_trivia Pat) Cod) s out r.state out'
+            node_acted : (b : ℕ) → 5 * (length q + length d) + 2 < b → Acted (match_node b x (skip_trivia Pat) Cod) s out r.state out'
             node_acted b o = acted _ s out r out' (rw (at_q, cod_is) at (g b o)) ok
 
-            first_acted : Acted (matchNode (suc (5 * (length q + length d) + 2)) x (skip_trivia Pat) Cod) s out r.state out'
+            first_acted : Acted (match_node (suc (5 * (length q + length d) + 2)) x (skip_trivia Pat) Cod) s out r.state out'
             first_acted = node_acted (suc (5 * (length q + length d) + 2)) (omega arith)
 
             pub pair_buffer : out' ≡ out
@@ -245,14 +245,14 @@ module _ (x : Matcher) (pe : ℕ) (ps : List ℕ) (at : ℕ) (ce : ℕ) (cs : Li
                 (silent_stays (notes es) r.state out (subst (λ (v : State). is_silent v out ≡ true) (sym first_acted.state) (silent_stays es s
                 out silent))))
 
-            same_events : (b : ℕ) → 5 * (length q + length d) + 2 < b → matchNode b x (skip_trivia Pat) Cod ≡ matched first_acted.events
+            same_events : (b : ℕ) → 5 * (length q + length d) + 2 < b → match_node b x (skip_trivia Pat) Cod ≡ matched first_acted.events
             same_events b o = more_node (suc (5 * (length q + length d) + 2)) b (omega (arith, o)) x (skip_trivia Pat) Cod first_acted.events
                 first_acted.matches
 
-            by_name_events : (m : ℕ) → 5 * (length ps + length cs) + 4 < m → matchOpt m x (skip_trivia Pat) (partner x (elems ce cs) (skip_trivia Pat))
+            by_name_events : (m : ℕ) → 5 * (length ps + length cs) + 4 < m → match_opt m x (skip_trivia Pat) (partner x (elems ce cs) (skip_trivia Pat))
                 ≡ matched first_acted.events
             by_name_events m l =
-                by_suc (λ b. matchOpt b x (skip_trivia Pat) (partner x (elems ce cs) (skip_trivia Pat)) ≡ matched first_acted.events) {k = 5 *
+                by_suc (λ b. match_opt b x (skip_trivia Pat) (partner x (elems ce cs) (skip_trivia Pat)) ≡ matched first_acted.events) {k = 5 *
                 (length ps + length cs) + 4}
                 (λ b o. rw (pair_partner) (opt_both x (skip_trivia Pat) Cod b (ap some (sym at_q) ∙ some_long (pe + (at + skip)) q (node_long (pe +
                 (at + skip)) q (ap is_a_node at_q ∙ pair_node))) (ap some (sym cod_is) ∙ some_long (ce + i) d long)
@@ -265,24 +265,24 @@ module _ (x : Matcher) (pe : ℕ) (ps : List ℕ) (at : ℕ) (ce : ℕ) (cs : Li
                 → (a : Answer) (end : List ℕ) → MeasuredGives on x pe ps (at + skip + w) ce cs (i + n) u out' a end → MeasuredGives before x pe ps at
                 ce cs i s out a end
             measured_pair u w n counts pass-q pass-d within a end left b m k l =
-                by_suc (λ b. Gives (and_then (matchSequences b x Pat Cod) (matched (owed before m x (elems ce cs) Pat Cod))) s out a end)
+                by_suc (λ b. Gives (and_then (match_sequences b x Pat Cod) (matched (owed before m x (elems ce cs) Pat Cod))) s out a end)
                 {k = 5 * (length (drop (at * 3) ps) + length (drop (i * 3) cs)) + 4}
                 (λ b o. same_gives (whole_is b o) (twice es zs s r.state u out silent first_acted.state (counts es first_acted.state)
-                (matchSequences b x (rest (skip_trivia Pat)) (rest Cod)) a end (left_is b o))) b k
+                (match_sequences b x (rest (skip_trivia Pat)) (rest Cod)) a end (left_is b o))) b k
               where
                 es : List Event
                 es = first_acted.events
 
                 zs : List Event
-                zs = again (λ y e. matchOpt m x y e) x (elems ce cs) (rest (skip_trivia Pat)) (rest Cod)
+                zs = again (λ y e. match_opt m x y e) x (elems ce cs) (rest (skip_trivia Pat)) (rest Cod)
 
                 whole_is : (b : ℕ) → 5 * (length (drop (at * 3) ps) + length (drop (i * 3) cs)) + 4 ≤ b
-                    → and_then (matchSequences (suc b) x Pat Cod) (matched (owed before m x (elems ce cs) Pat Cod))
-                    ≡ and_then (and_then (matched es) (matchSequences b x (rest (skip_trivia Pat)) (rest Cod))) (matched (notes es ++ zs))
+                    → and_then (match_sequences (suc b) x Pat Cod) (matched (owed before m x (elems ce cs) Pat Cod))
+                    ≡ and_then (and_then (matched es) (match_sequences b x (rest (skip_trivia Pat)) (rest Cod))) (matched (notes es ++ zs))
                 whole_is b o =
                     both_are (
                     sequence_node x Pat Cod b (ap some (sym cod_is) ∙ some_long (ce + i) d long) pair_trivia pair_token pair_node
-                    ∙ ap (λ (v : Attempt). and_then v (matchSequences b x (rest (skip_trivia Pat)) (rest Cod)))
+                    ∙ ap (λ (v : Attempt). and_then v (match_sequences b x (rest (skip_trivia Pat)) (rest Cod)))
                     (same_events b (omega (arith, o, ap length q-is, length-drop ((at + skip) * 3) ps, length-drop (at * 3) ps, ap length d-is)))
                     ) (
                     ap (λ (v : Bool). owed v m x (elems ce cs) Pat Cod) open_before.0
@@ -297,10 +297,10 @@ module _ (x : Matcher) (pe : ℕ) (ps : List ℕ) (at : ℕ) (ce : ℕ) (cs : Li
                 rest-c : elems (ce + (i + n)) (drop ((i + n) * 3) cs) ≡ rest Cod
                 rest-c = pass_more ce i n cs ∙ ap (λ (t : List ℕ). elems (ce + i + n) (drop (n * 3) t)) (sym d-is) ∙ pass-d (ce + i) ∙ ap rest cod_is
 
-                left_is : (b : ℕ) → 5 * (length (drop (at * 3) ps) + length (drop (i * 3) cs)) + 4 ≤ b → Gives (and_then (matchSequences b x (rest
+                left_is : (b : ℕ) → 5 * (length (drop (at * 3) ps) + length (drop (i * 3) cs)) + 4 ≤ b → Gives (and_then (match_sequences b x (rest
                     (skip_trivia Pat)) (rest Cod)) (matched zs)) u out a end
                 left_is b o =
-                    subst (λ (v : List ℕ). Gives (and_then (matchSequences b x (rest (skip_trivia Pat)) (rest Cod)) (matched zs)) u v a end) pair_buffer
+                    subst (λ (v : List ℕ). Gives (and_then (match_sequences b x (rest (skip_trivia Pat)) (rest Cod)) (matched zs)) u v a end) pair_buffer
                     (same_gives (sym (join b rest-p rest-c (ap (λ (v : Bool). owed v m x (elems ce cs) (elems (pe + (at + skip + w)) (drop ((at +
                     skip + w) * 3) ps)) (elems (ce + (i + n)) (drop ((i + n) * 3) cs))) pair_on ∙ rw (rest-p, rest-c))))
                     (left b m (omega (

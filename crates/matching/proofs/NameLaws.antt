@@ -28,7 +28,7 @@ use Rattle.record_fields.specs.declared.Field.{Field}
 use Rattle.matching.specs.RecordFields.{match_fields}
 use Rattle.ordered_fields.specs.Order.{starts_over, next, past, partner, is_same, is_beside}
 use Rattle.matching.specs.StartingOver.{field_by_name, by_name, again, is_silent}
-use Rattle.matching.specs.Matching.{matchNode, matchSequences, matchOpt, matchRecordFieldList, SequencesGive, OptGives, RecordGives, FieldGives, ByNameGives, MeasuredGives, NotedGives, Stands}
+use Rattle.matching.specs.Matching.{match_node, match_sequences, match_opt, match_record_field_list, SequencesGive, OptGives, RecordGives, FieldGives, ByNameGives, MeasuredGives, NotedGives, Stands}
 use Rattle.matching.proofs.StepLaws.{by_suc, same_gives}
 use Rattle.matching.proofs.GiveLaws.{gives_no, gives_same, first_fails, both_match, test_fails, test_holds}
 use Rattle.matching.proofs.FuelLaws.{more_node}
@@ -62,17 +62,17 @@ module _ (x : Matcher) (pe : ℕ) (ps : List ℕ) (at : ℕ) (ce : ℕ) (cs : Li
     beside_is = rw (sym is.named ∙ h) (ap (λ (y : Elems). is_same y (next (elems (ce + by) (drop (by * 3) cs)))) (sym (is.found h)) ∙ sym same_is)
 
     pub field-left : (leaves && same) ≡ true → (r : Answer) → r ≡ record { ok = true; state = s } → FieldGives leaves x pe ps at ce cs by s out r out
-    field-left l r e n k = gives_same (named_free leaves (λ y e. matchOpt n x y e) x (elems pe ps) (elems ce cs) Sib (elems (ce + by) (drop (by * 3)
+    field-left l r e n k = gives_same (named_free leaves (λ y e. match_opt n x y e) x (elems pe ps) (elems ce cs) Sib (elems (ce + by) (drop (by * 3)
         cs)) (sym is.named ∙ h) (sym (is.free h) ∙ g)
-        ∙ ap (λ (b : Bool). cond b (matched []) (matchOpt n x Sib (partner x (elems ce cs) Sib))) (ap (λ (b : Bool). leaves && b) beside_is ∙ l)) e
+        ∙ ap (λ (b : Bool). cond b (matched []) (match_opt n x Sib (partner x (elems ce cs) Sib))) (ap (λ (b : Bool). leaves && b) beside_is ∙ l)) e
 
     pub field_opt : (leaves && same) ≡ false → (q c : List ℕ) → q ≡ drop (at * 3) ps → c ≡ drop (f.c * 3) cs → (r : Answer) (out' : List ℕ)
         → OptGives x (pe + at) q (ce + f.c) c s out r out' → FieldGives leaves x pe ps at ce cs by s out r out'
     field_opt l q c q-is c-is r out' o n k =
-        same_gives (named_free leaves (λ y e. matchOpt n x y e) x (elems pe ps) (elems ce cs) Sib (elems (ce + by) (drop (by * 3) cs)) (sym
+        same_gives (named_free leaves (λ y e. match_opt n x y e) x (elems pe ps) (elems ce cs) Sib (elems (ce + by) (drop (by * 3) cs)) (sym
         is.named ∙ h) (sym (is.free h) ∙ g)
-        ∙ ap (λ (b : Bool). cond b (matched []) (matchOpt n x Sib (partner x (elems ce cs) Sib))) (ap (λ (b : Bool). leaves && b) beside_is ∙ l)
-        ∙ ap (matchOpt n x Sib) (sym (is.found h)))
+        ∙ ap (λ (b : Bool). cond b (matched []) (match_opt n x Sib (partner x (elems ce cs) Sib))) (ap (λ (b : Bool). leaves && b) beside_is ∙ l)
+        ∙ ap (match_opt n x Sib) (sym (is.found h)))
         (rw (q-is, c-is) at (o n) (omega (arith, k, ap length q-is, length-drop (at * 3) ps, ap length c-is, length-drop (f.c * 3) cs)))
 
 -- ---- all siblings
@@ -112,11 +112,11 @@ module _ (x : Matcher) (pe : ℕ) (ps : List ℕ) (at : ℕ) (ce : ℕ) (cs : Li
         end
     by_name_next e t f w by' passes pasts a end l n k =
         same_gives (by_more leaves _ x _ _ _ _ (test_is true h)
-        ∙ ap (λ (y : Elems). and_then (field_by_name leaves (λ y e. matchOpt n x y e) x (elems pe ps) (elems ce cs) (elems (pe + at) (drop (at * 3) ps))
-        (elems (ce + by) (drop (by * 3) cs))) (by_name leaves (λ y e. matchOpt n x y e) x (elems pe ps) (elems ce cs) y (past (elems (pe + at)
+        ∙ ap (λ (y : Elems). and_then (field_by_name leaves (λ y e. match_opt n x y e) x (elems pe ps) (elems ce cs) (elems (pe + at) (drop (at * 3) ps))
+        (elems (ce + by) (drop (by * 3) cs))) (by_name leaves (λ y e. match_opt n x y e) x (elems pe ps) (elems ce cs) y (past (elems (pe + at)
         (drop (at * 3) ps)) (elems (ce + by) (drop (by * 3) cs))))) (sym rests)
-        ∙ ap (λ (y : Elems). and_then (field_by_name leaves (λ y e. matchOpt n x y e) x (elems pe ps) (elems ce cs) (elems (pe + at) (drop (at * 3) ps))
-        (elems (ce + by) (drop (by * 3) cs))) (by_name leaves (λ y e. matchOpt n x y e) x (elems pe ps) (elems ce cs) (elems (pe + (at + w)) (drop
+        ∙ ap (λ (y : Elems). and_then (field_by_name leaves (λ y e. match_opt n x y e) x (elems pe ps) (elems ce cs) (elems (pe + at) (drop (at * 3) ps))
+        (elems (ce + by) (drop (by * 3) cs))) (by_name leaves (λ y e. match_opt n x y e) x (elems pe ps) (elems ce cs) (elems (pe + (at + w)) (drop
         ((at + w) * 3) ps)) y)) (sym pasts-on))
         (both_match _ s out r out' a _ t end (g n k) e f (l n k))
       where
@@ -138,12 +138,12 @@ module _ (x : Matcher) (pe : ℕ) (ps : List ℕ) (at : ℕ) (ce : ℕ) (cs : Li
       (ce + of) c t out r out'
       → NotedGives named x pe ps at ce cs of s out r out'
   noted_opt h q c q-is c-is r out' o n k =
-      same_gives (ap (λ (b : Bool). cond b (matchOpt n x (elems (pe + at) (drop (at * 3) ps)) (elems (ce + of) (drop (of * 3) cs))) (matched [])) h)
-      (subst (λ (v : State). Gives (matchOpt n x (elems (pe + at) (drop (at * 3) ps)) (elems (ce + of) (drop (of * 3) cs))) v out r out') t-is (rw
+      same_gives (ap (λ (b : Bool). cond b (match_opt n x (elems (pe + at) (drop (at * 3) ps)) (elems (ce + of) (drop (of * 3) cs))) (matched [])) h)
+      (subst (λ (v : State). Gives (match_opt n x (elems (pe + at) (drop (at * 3) ps)) (elems (ce + of) (drop (of * 3) cs))) v out r out') t-is (rw
       (q-is, c-is) at (o n) k))
 
   pub noted-done : named ≡ false → (r : Answer) → r ≡ record { ok = true; state = t } → NotedGives named x pe ps at ce cs of s out r out
-  noted-done h r e n k = gives_same (ap (λ (b : Bool). cond b (matchOpt n x (elems (pe + at) (drop (at * 3) ps)) (elems (ce + of) (drop (of * 3)
+  noted-done h r e n k = gives_same (ap (λ (b : Bool). cond b (match_opt n x (elems (pe + at) (drop (at * 3) ps)) (elems (ce + of) (drop (of * 3)
       cs))) (matched [])) h)
       (e ∙ ap (λ (v : State). record { ok = true; state = v }) t-is)
 
@@ -157,8 +157,8 @@ laid-part d at bs h =
     (length bs) refl
 
 opened : (x : Matcher) (p c ps cs : Elems) (m : ℕ) → ps ≡ children p → cs ≡ children c
-    → matchRecordFieldList (suc m) x p c ≡ match_fields (λ q e. matchOpt m x q e) (matchSequences m x ps cs) x ps cs ps
-unfolding matchNode
+    → match_record_field_list (suc m) x p c ≡ match_fields (λ q e. match_opt m x q e) (match_sequences m x ps cs) x ps cs ps
+unfolding match_node
 opened x p c ps cs m e f = rw (e, f)
 
 module _ (x : Matcher) (pe : ℕ) (p : List ℕ) (ce : ℕ) (c : List ℕ) (s : State) (out : List ℕ) (ps cs : List ℕ)
@@ -170,10 +170,10 @@ module _ (x : Matcher) (pe : ℕ) (p : List ℕ) (ce : ℕ) (c : List ℕ) (s : 
   abbrev Cs : Elems
   Cs = elems (ce + 1) cs
 
-  from_fields : (r : Answer) (end : List ℕ) → ((n : ℕ) → 5 * (length ps + length cs) + 4 < n → Gives (match_fields (λ q e. matchOpt n x q e)
-      (matchSequences n x Ps Cs) x Ps Cs Ps) s out r end)
+  from_fields : (r : Answer) (end : List ℕ) → ((n : ℕ) → 5 * (length ps + length cs) + 4 < n → Gives (match_fields (λ q e. match_opt n x q e)
+      (match_sequences n x Ps Cs) x Ps Cs Ps) s out r end)
       → RecordGives x pe p ce c s out r end
-  from_fields r end g = by_suc (λ n. Gives (matchRecordFieldList n x (elems pe p) (elems ce c)) s out r end) {k = 5 * (length p + length c) + 0}
+  from_fields r end g = by_suc (λ n. Gives (match_record_field_list n x (elems pe p) (elems ce c)) s out r end) {k = 5 * (length p + length c) + 0}
       (λ m h. same_gives (opened x (elems pe p) (elems ce c) Ps Cs m (below-p pe) (below-c ce)) (g m (omega (arith, h, short-p, short-c))))
 
   zero_is : (e : ℕ) (l : List ℕ) → elems (e + 0) (drop (0 * 3) l) ≡ elems e l
@@ -182,7 +182,7 @@ module _ (x : Matcher) (pe : ℕ) (p : List ℕ) (ce : ℕ) (c : List ℕ) (s : 
   module _ (over silent leaves : Bool) (over-is : over ≡ starts_over x Ps) (silent-is : silent ≡ is_silent s out) (leaves-is : leaves ≡ (over &&
       silent))
       (r : Answer) (out₁ : List ℕ) (by : ByNameGives leaves x (pe + 1) ps 0 (ce + 1) cs 0 s out r out₁) where
-    by_is : (n : ℕ) → 5 * (length ps + length cs) + 4 < n → Gives (by_name leaves (λ q e. matchOpt n x q e) x Ps Cs Ps Cs) s out r out₁
+    by_is : (n : ℕ) → 5 * (length ps + length cs) + 4 < n → Gives (by_name leaves (λ q e. match_opt n x q e) x Ps Cs Ps Cs) s out r out₁
     by_is n k = rw (zero_is (pe + 1) ps, zero_is (ce + 1) cs) at (by n k)
 
     -- by name alone
@@ -190,10 +190,10 @@ module _ (x : Matcher) (pe : ℕ) (p : List ℕ) (ce : ℕ) (c : List ℕ) (s : 
       not_left : leaves ≡ false
       not_left = leaves-is ∙ ap (λ (b : Bool). b && silent) plain
 
-      plain_is : (n : ℕ) → match_fields (λ q e. matchOpt n x q e) (matchSequences n x Ps Cs) x Ps Cs Ps
-          ≡ and_then (by_name leaves (λ q e. matchOpt n x q e) x Ps Cs Ps Cs) (given (are_asked x.code x.facts x.tree x.text Ps Cs))
-      plain_is n = fields_plain (λ q e. matchOpt n x q e) (matchSequences n x Ps Cs) x Ps Cs Ps Cs (sym over-is ∙ plain)
-          ∙ ap (λ (b : Bool). and_then (by_name b (λ q e. matchOpt n x q e) x Ps Cs Ps Cs) (given (are_asked x.code x.facts x.tree x.text Ps
+      plain_is : (n : ℕ) → match_fields (λ q e. match_opt n x q e) (match_sequences n x Ps Cs) x Ps Cs Ps
+          ≡ and_then (by_name leaves (λ q e. match_opt n x q e) x Ps Cs Ps Cs) (given (are_asked x.code x.facts x.tree x.text Ps Cs))
+      plain_is n = fields_plain (λ q e. match_opt n x q e) (match_sequences n x Ps Cs) x Ps Cs Ps Cs (sym over-is ∙ plain)
+          ∙ ap (λ (b : Bool). and_then (by_name b (λ q e. match_opt n x q e) x Ps Cs Ps Cs) (given (are_asked x.code x.facts x.tree x.text Ps
           Cs))) (sym not_left)
 
       pub record_asked : r.ok ≡ true → are_asked x.code x.facts x.tree x.text Ps Cs ≡ true → RecordGives x pe p ce c s out r out₁
@@ -211,24 +211,24 @@ module _ (x : Matcher) (pe : ℕ) (p : List ℕ) (ce : ℕ) (c : List ℕ) (s : 
       leaves_silent : leaves ≡ silent
       leaves_silent = leaves-is ∙ ap (λ (b : Bool). b && silent) starts
 
-      over_fields : silent ≡ false → (n : ℕ) → match_fields (λ q e. matchOpt n x q e) (matchSequences n x Ps Cs) x Ps Cs Ps ≡ and_then (by_name leaves
-          (λ q e. matchOpt n x q e) x Ps Cs Ps Cs) (matchSequences n x Ps Cs)
-      over_fields h n = fields_over (λ q e. matchOpt n x q e) (matchSequences n x Ps Cs) x Ps Cs Ps Cs over-holds
-          ∙ ap (λ (b : Bool). and_then (by_name b (λ q e. matchOpt n x q e) x Ps Cs Ps Cs) (matchSequences n x Ps Cs)) (sym (leaves_silent ∙ h))
+      over_fields : silent ≡ false → (n : ℕ) → match_fields (λ q e. match_opt n x q e) (match_sequences n x Ps Cs) x Ps Cs Ps ≡ and_then (by_name leaves
+          (λ q e. match_opt n x q e) x Ps Cs Ps Cs) (match_sequences n x Ps Cs)
+      over_fields h n = fields_over (λ q e. match_opt n x q e) (match_sequences n x Ps Cs) x Ps Cs Ps Cs over-holds
+          ∙ ap (λ (b : Bool). and_then (by_name b (λ q e. match_opt n x q e) x Ps Cs Ps Cs) (match_sequences n x Ps Cs)) (sym (leaves_silent ∙ h))
 
       over_silent : silent ≡ true → (n : ℕ) (r' : Answer) (end : List ℕ)
-          → Gives (and_then (by_name leaves (λ q e. matchOpt n x q e) x Ps Cs Ps Cs) (and_then (matchSequences n x Ps Cs) (matched (again (λ q e.
-          matchOpt n x q e) x Cs Ps Cs)))) s out r' end
-          → Gives (match_fields (λ q e. matchOpt n x q e) (matchSequences n x Ps Cs) x Ps Cs Ps) s out r' end
+          → Gives (and_then (by_name leaves (λ q e. match_opt n x q e) x Ps Cs Ps Cs) (and_then (match_sequences n x Ps Cs) (matched (again (λ q e.
+          match_opt n x q e) x Cs Ps Cs)))) s out r' end
+          → Gives (match_fields (λ q e. match_opt n x q e) (match_sequences n x Ps Cs) x Ps Cs Ps) s out r' end
       over_silent h n r' end g = start-over-words more_node n x Ps (ce + 1) cs s out r' end (sym silent-is ∙ h) over-holds
-          (subst (λ (b : Bool). Gives (and_then (by_name b (λ q e. matchOpt n x q e) x Ps Cs Ps Cs) (and_then (matchSequences n x Ps Cs) (matched (again
-          (λ q e. matchOpt n x q e) x Cs Ps Cs)))) s out r' end) (leaves_silent ∙ h) g)
+          (subst (λ (b : Bool). Gives (and_then (by_name b (λ q e. match_opt n x q e) x Ps Cs Ps Cs) (and_then (match_sequences n x Ps Cs) (matched (again
+          (λ q e. match_opt n x q e) x Cs Ps Cs)))) s out r' end) (leaves_silent ∙ h) g)
 
       module _ (ok : r.ok ≡ true) (t : State) (t-is : t ≡ r.state) where
-        by_acted : (n : ℕ) → 5 * (length ps + length cs) + 4 < n → Acted (by_name leaves (λ q e. matchOpt n x q e) x Ps Cs Ps Cs) s out r.state out₁
+        by_acted : (n : ℕ) → 5 * (length ps + length cs) + 4 < n → Acted (by_name leaves (λ q e. match_opt n x q e) x Ps Cs Ps Cs) s out r.state out₁
         by_acted n k = acted _ s out r out₁ (by_is n k) ok
 
-        first : Acted (by_name leaves (λ q e. matchOpt (suc (5 * (length ps + length cs) + 4)) x q e) x Ps Cs Ps Cs) s out r.state out₁
+        first : Acted (by_name leaves (λ q e. match_opt (suc (5 * (length ps + length cs) + 4)) x q e) x Ps Cs Ps Cs) s out r.state out₁
         first = by_acted (suc (5 * (length ps + length cs) + 4)) (omega arith)
 
         pub still_silent : silent ≡ true → is_silent t out₁ ≡ true
@@ -264,7 +264,7 @@ module _ (x : Matcher) (pe : ℕ) (p : List ℕ) (ce : ℕ) (c : List ℕ) (s : 
           pub stands-first : Stands true x (pe + 1) ps 0 (ce + 1) cs s.noted t out₁
           stands-first n k = record {
             events = b.events;
-            matches = rw (zero_is (pe + 1) ps) (sym (by_any (λ q e. matchOpt n x q e) x Ps Cs Ps Cs) ∙ ap (λ (v : Bool). by_name v (λ q e. matchOpt n
+            matches = rw (zero_is (pe + 1) ps) (sym (by_any (λ q e. match_opt n x q e) x Ps Cs Ps Cs) ∙ ap (λ (v : Bool). by_name v (λ q e. match_opt n
                 x q e) x Ps Cs Ps Cs) (sym (leaves_silent ∙ h)) ∙ b.matches);
             bytes = λ l.
                 let m = noted_exact (length out) b.events s.noted (omega (arith, l, place, lengths)) in (
@@ -274,7 +274,7 @@ module _ (x : Matcher) (pe : ℕ) (p : List ℕ) (ce : ℕ) (c : List ℕ) (s : 
                 );
           }
             where
-              b : Acted (by_name leaves (λ q e. matchOpt n x q e) x Ps Cs Ps Cs) s out r.state out₁
+              b : Acted (by_name leaves (λ q e. match_opt n x q e) x Ps Cs Ps Cs) s out r.state out₁
               b = by_acted n k
 
               place : t.noted ≡ noted_after (length out) b.events s.noted
@@ -286,8 +286,8 @@ module _ (x : Matcher) (pe : ℕ) (p : List ℕ) (ce : ℕ) (c : List ℕ) (s : 
     pub record_fails : r.ok ≡ false → (r' : Answer) → r' ≡ no_match → RecordGives x pe p ce c s out r' out₁
     record_fails e r' f = from_fields r' out₁ (λ n k. cases n k over silent refl refl)
       where
-        cases : (n : ℕ) → 5 * (length ps + length cs) + 4 < n → (a b : Bool) → over ≡ a → silent ≡ b → Gives (match_fields (λ q e. matchOpt n x q e)
-            (matchSequences n x Ps Cs) x Ps Cs Ps) s out r' out₁
+        cases : (n : ℕ) → 5 * (length ps + length cs) + 4 < n → (a b : Bool) → over ≡ a → silent ≡ b → Gives (match_fields (λ q e. match_opt n x q e)
+            (match_sequences n x Ps Cs) x Ps Cs Ps) s out r' out₁
         cases n k false b u v = same_gives (plain_is u n) (first_fails _ s out r out₁ r' _ (by_is n k) e f)
         cases n k true true u v = over_silent u v n r' out₁ (first_fails _ s out r out₁ r' _ (by_is n k) e f)
         cases n k true false u v = same_gives (over_fields u v n) (first_fails _ s out r out₁ r' _ (by_is n k) e f)

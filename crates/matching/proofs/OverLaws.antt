@@ -30,7 +30,7 @@ use Rattle.matcher.specs.Tokens.{skips, is_extra, past_separator, is_same_token,
 use Rattle.matcher.proofs.TokenLaws.{same_token_is, pass_more, pass_none}
 use Rattle.record_fields.specs.Fields.{pattern_name, are_asked, is_free, is_field, last_field}
 use Rattle.matching.specs.RecordFields.{match_fields}
-use Rattle.matching.specs.Matching.{matchNode, matchSequences, matchOpt}
+use Rattle.matching.specs.Matching.{match_node, match_sequences, match_opt}
 use Rattle.ordered_fields.specs.Order.{starts_over, next, past, partner, is_same}
 use Rattle.matching.specs.StartingOver.{by_name, again, is_silent}
 use Rattle.matching.proofs.StepLaws.{same_gives, opt_both, sequence_end, sequence_trivia, sequence_token, sequence_other-token, sequence_node, sequence_other}
@@ -251,16 +251,16 @@ covers-later es fs gs f slot h = binds-append slot es fs ∙ rw (f slot h) (or-t
 module _ (x : Matcher) (P : Elems → Elems → Type 0) where
   -- two nodes that match within the bound, recording what all events cover
   abbrev Into : ℕ → List Event → Type 0
-  Into n os = (m : ℕ) (q e : Elems) (es : List Event) → m < n → some q ≡ true → some e ≡ true → matchNode m x q e ≡ matched es → Covers os es → P q e
+  Into n os = (m : ℕ) (q e : Elems) (es : List Event) → m < n → some q ≡ true → some e ≡ true → match_node m x q e ≡ matched es → Covers os es → P q e
 
   abbrev Along : ℕ → Type 0
-  Along n = (ps cs : Elems) (os : List Event) → matchSequences n x ps cs ≡ matched os → Into n os → AllBeside P ps cs
+  Along n = (ps cs : Elems) (os : List Event) → match_sequences n x ps cs ≡ matched os → Into n os → AllBeside P ps cs
 
   into_later : (n : ℕ) (es fs os : List Event) → os ≡ es ++ fs → Into (suc n) os → Into n fs
   into_later n es fs os e f m q c gs l h k r v = f m q c gs (omega (arith, l)) h k r (subst (λ (us : List Event). Covers us gs) (sym e) (covers-later
       es fs gs v))
 
-  module _ (n : ℕ) (left : Along n) (ps cs : Elems) (os : List Event) (h : matchSequences (suc n) x ps cs ≡ matched os) (f : Into (suc n) os) where
+  module _ (n : ℕ) (left : Along n) (ps cs : Elems) (os : List Event) (h : match_sequences (suc n) x ps cs ≡ matched os) (f : Into (suc n) os) where
     along_end : some cs ≡ false → AllBeside P ps cs
     along_end e = beside_trivia P ps cs (by (some (skip_trivia ps)) refl (sym (sequence_end x ps cs n e) ∙ h))
       where
@@ -271,7 +271,7 @@ module _ (x : Matcher) (P : Elems → Elems → Type 0) where
     module _ (e : some cs ≡ true) where
       along_trivia : is_trivia cs ≡ true → AllBeside P ps cs
       along_trivia t =
-          let b = parted (note x.text cs) (matchSequences n x (skip_trivia ps) (rest cs)) os (sym (sequence_trivia x ps cs n e t) ∙ h) in
+          let b = parted (note x.text cs) (match_sequences n x (skip_trivia ps) (rest cs)) os (sym (sequence_trivia x ps cs n e t) ∙ h) in
           beside_trivia P ps cs (beside_rest P (skip_trivia ps) cs (trivia_is_token cs t)
           (left (skip_trivia ps) (rest cs) b.second b.second_is (into_later n b.first b.second os b.whole f)))
 
@@ -286,7 +286,7 @@ module _ (x : Matcher) (P : Elems → Elems → Type 0) where
         along_node : is_a_token cs ≡ false → (b : Bool) → is_a_node (skip_trivia ps) ≡ b → AllBeside P ps cs
         along_node k true m =
             let p = skip_trivia ps in
-            let b = parted (matchNode n x p cs) (matchSequences n x (rest p) (rest cs)) os (sym (sequence_node x ps cs n e t k m) ∙ h) in
+            let b = parted (match_node n x p cs) (match_sequences n x (rest p) (rest cs)) os (sym (sequence_node x ps cs n e t k m) ∙ h) in
             let c : next cs ≡ cs = skip-here 1 1023 cs k in
             let v : Covers os b.first = subst (λ (us : List Event). Covers us b.first) (sym b.whole) (covers-first b.first b.second) in
             beside_trivia P ps cs (beside_node P p cs m
@@ -307,7 +307,7 @@ module _ (x : Matcher) (P : Elems → Elems → Type 0) where
     along_step false e = along_end e
 
   along : (n : ℕ) → Along n
-  unfolding matchNode
+  unfolding match_node
   along zero ps cs os h f = fails_not os h
   along (suc n) ps cs os h f = along_step n (along n) ps cs os h f (some cs) refl
 
@@ -423,29 +423,29 @@ gives_agreed (matched gs) (matched fs) (matched os) ns s out r end h f g = recor
 }
 
 -- two that match within a lower bound
-opt_below : ((m n : ℕ) → m ≤ n → (x : Matcher) (p c : Elems) (es : List Event) → matchNode m x p c ≡ matched es → matchNode n x p c ≡ matched es)
-    → (n m : ℕ) (x : Matcher) (q e : Elems) (es : List Event) → m < n → some q ≡ true → some e ≡ true → matchNode m x q e ≡ matched es → matchOpt n x
+opt_below : ((m n : ℕ) → m ≤ n → (x : Matcher) (p c : Elems) (es : List Event) → match_node m x p c ≡ matched es → match_node n x p c ≡ matched es)
+    → (n m : ℕ) (x : Matcher) (q e : Elems) (es : List Event) → m < n → some q ≡ true → some e ≡ true → match_node m x q e ≡ matched es → match_opt n x
     q e ≡ matched es
 opt_below more zero m x q e es l h k r = absurd (not-suc-le-zero l)
 opt_below more (suc n) m x q e es l h k r = opt_both x q e n h k ∙ more m n (le_of_suc-le-suc l) x q e es r
 
 -- THE SAME WITH PAIRS LEFT OUT, where a higher bound changes nothing of a match
-module _ (more : (m n : ℕ) → m ≤ n → (x : Matcher) (p c : Elems) (es : List Event) → matchNode m x p c ≡ matched es → matchNode n x p c ≡ matched es)
+module _ (more : (m n : ℕ) → m ≤ n → (x : Matcher) (p c : Elems) (es : List Event) → match_node m x p c ≡ matched es → match_node n x p c ≡ matched es)
   where
     pub start-over : (n : ℕ) (x : Matcher) (ps cs : Elems) (s : State) (out : List ℕ) (r : Answer) (end : List ℕ) → is_silent s out ≡ true → starts_over
         x ps ≡ true → Unique cs
-        → Gives (and_then (by_name true (λ q e. matchOpt n x q e) x ps cs ps cs) (and_then (matchSequences n x ps cs) (matched (again (λ q e. matchOpt n x
+        → Gives (and_then (by_name true (λ q e. match_opt n x q e) x ps cs ps cs) (and_then (match_sequences n x ps cs) (matched (again (λ q e. match_opt n x
         q e) x cs ps cs)))) s out r end
-        → Gives (match_fields (λ q e. matchOpt n x q e) (matchSequences n x ps cs) x ps cs ps) s out r end
+        → Gives (match_fields (λ q e. match_opt n x q e) (match_sequences n x ps cs) x ps cs ps) s out r end
     start-over n x ps cs s out r end silent over unique g =
-        same_gives (fields_over match (matchSequences n x ps cs) x ps cs ps cs over)
-        (gives_agreed (by_name true match x ps cs ps cs) (by_name false match x ps cs ps cs) (matchSequences n x ps cs) (again match x cs ps cs) s out r
+        same_gives (fields_over match (match_sequences n x ps cs) x ps cs ps cs over)
+        (gives_agreed (by_name true match x ps cs ps cs) (by_name false match x ps cs ps cs) (match_sequences n x ps cs) (again match x cs ps cs) s out r
         end silent agreed g)
       where
         match : Elems → Elems → Attempt
-        match q e = matchOpt n x q e
+        match q e = match_opt n x q e
 
-        agreed : (os : List Event) → matchSequences n x ps cs ≡ matched os → Agree os (by_name true match x ps cs ps cs) (by_name false match x ps cs ps
+        agreed : (os : List Event) → match_sequences n x ps cs ≡ matched os → Agree os (by_name true match x ps cs ps cs) (by_name false match x ps cs ps
             cs) (again match x cs ps cs)
         agreed os h = agree_fields match x ps cs os unique ps cs whole
             (along x (λ q e. Covered os (match q e)) n ps cs os h (λ m q e es l a b k v. record {
@@ -458,7 +458,7 @@ module _ (more : (m n : ℕ) → m ≤ n → (x : Matcher) (p c : Elems) (es : L
     -- for siblings that words are
     pub start-over-words : (n : ℕ) (x : Matcher) (ps : Elems) (i : ℕ) (l : List ℕ) (s : State) (out : List ℕ) (r : Answer) (end : List ℕ) → is_silent s
         out ≡ true → starts_over x ps ≡ true
-        → Gives (and_then (by_name true (λ q e. matchOpt n x q e) x ps (elems i l) ps (elems i l))
-        (and_then (matchSequences n x ps (elems i l)) (matched (again (λ q e. matchOpt n x q e) x (elems i l) ps (elems i l))))) s out r end
-        → Gives (match_fields (λ q e. matchOpt n x q e) (matchSequences n x ps (elems i l)) x ps (elems i l) ps) s out r end
+        → Gives (and_then (by_name true (λ q e. match_opt n x q e) x ps (elems i l) ps (elems i l))
+        (and_then (match_sequences n x ps (elems i l)) (matched (again (λ q e. match_opt n x q e) x (elems i l) ps (elems i l))))) s out r end
+        → Gives (match_fields (λ q e. match_opt n x q e) (match_sequences n x ps (elems i l)) x ps (elems i l) ps) s out r end
     start-over-words n x ps i l s out r end silent over g = start-over n x ps (elems i l) s out r end silent over (elems_unique i l) g

@@ -16,9 +16,9 @@ use Rattle.captures.specs.declared.Answer.{Answer}
 use Rattle.captures.proofs.AttemptLaws.{given_true, given_false}
 use Rattle.matcher.specs.Matcher.{Matcher, slot_of, is_resolved, is_a_call}
 use Rattle.matcher.specs.Tokens.{matches_token, after_token, note}
-use Rattle.token_trees.specs.TokenTrees.{matchTokenTree}
+use Rattle.token_trees.specs.TokenTrees.{match_token_tree}
 use Rattle.calls.specs.Calls.{call_of, first_fits, same_resolution}
-use Rattle.matching.specs.Matching.{capture, matchNode, matchByKind, matchSequences, matchOpt, matchPath, matchSegments, matchRecordFieldList, matchUfcs, matchMethodCall, matchArguments}
+use Rattle.matching.specs.Matching.{capture, match_node, match_by_kind, match_sequences, match_opt, match_path, match_segments, match_record_field_list, match_ufcs, match_method_call, match_arguments}
 
 -- what holds at each bound above k holds where it is one more than some m that is not below k
 pub by_suc : (G : ℕ → Type 0) {k : ℕ} → ((m : ℕ) → k ≤ m → G (suc m)) → (n : ℕ) → k < n → G n
@@ -31,130 +31,130 @@ same_gives {a} {b} {s} {out} {r} {end} e g = subst (λ (d : Attempt). Gives d s 
 
 module _ (x : Matcher) (p c : Elems) (n : ℕ) where
   -- ---- nodes
-  pub node_takes : ltb (slot_of x p) 8 ≡ true → matchNode (suc n) x p c ≡ capture x (slot_of x p) c
-  unfolding matchNode
+  pub node_takes : ltb (slot_of x p) 8 ≡ true → match_node (suc n) x p c ≡ capture x (slot_of x p) c
+  unfolding match_node
   node_takes h = rw (h)
 
-  pub node_method : ltb (slot_of x p) 8 ≡ false → (is_a_call (call_of x p) && node_in 65 65 c) ≡ true → matchNode (suc n) x p c ≡ matchMethodCall n x p c
-  unfolding matchNode
+  pub node_method : ltb (slot_of x p) 8 ≡ false → (is_a_call (call_of x p) && node_in 65 65 c) ≡ true → match_node (suc n) x p c ≡ match_method_call n x p c
+  unfolding match_node
   node_method h m = rw (h, m)
 
   pub node_ufcs : ltb (slot_of x p) 8 ≡ false → (is_a_call (call_of x p) && node_in 65 65 c) ≡ false → (is_a_call (call_of x p) && node_in 64 64 c) ≡ true
-      → matchNode (suc n) x p c ≡ matchUfcs n x p c
-  unfolding matchNode
+      → match_node (suc n) x p c ≡ match_ufcs n x p c
+  unfolding match_node
   node_ufcs h m u = rw (h, m, u)
 
   pub node_kind : ltb (slot_of x p) 8 ≡ false → (is_a_call (call_of x p) && node_in 65 65 c) ≡ false → (is_a_call (call_of x p) && node_in 64 64 c) ≡ false
-      → eqb (kind_of p) (kind_of c) ≡ true → matchNode (suc n) x p c ≡ matchByKind n x p c
-  unfolding matchNode
+      → eqb (kind_of p) (kind_of c) ≡ true → match_node (suc n) x p c ≡ match_by_kind n x p c
+  unfolding match_node
   node_kind h m u k = rw (h, m, u, k)
 
   pub node_other : ltb (slot_of x p) 8 ≡ false → (is_a_call (call_of x p) && node_in 65 65 c) ≡ false → (is_a_call (call_of x p) && node_in 64 64 c) ≡ false
-      → eqb (kind_of p) (kind_of c) ≡ false → matchNode (suc n) x p c ≡ failed
-  unfolding matchNode
+      → eqb (kind_of p) (kind_of c) ≡ false → match_node (suc n) x p c ≡ failed
+  unfolding match_node
   node_other h m u k = rw (h, m, u, k)
 
-  pub kind_record : eqb (kind_of c) 8 ≡ true → matchByKind (suc n) x p c ≡ matchRecordFieldList n x p c
-  unfolding matchNode
+  pub kind_record : eqb (kind_of c) 8 ≡ true → match_by_kind (suc n) x p c ≡ match_record_field_list n x p c
+  unfolding match_node
   kind_record h = rw (h)
 
-  pub kind-tree : eqb (kind_of c) 8 ≡ false → eqb (kind_of c) 1 ≡ true → matchByKind (suc n) x p c ≡ matchTokenTree n x p c
-  unfolding matchNode
+  pub kind-tree : eqb (kind_of c) 8 ≡ false → eqb (kind_of c) 1 ≡ true → match_by_kind (suc n) x p c ≡ match_token_tree n x p c
+  unfolding match_node
   kind-tree h t = rw (h, t)
 
-  pub kind-path : eqb (kind_of c) 8 ≡ false → eqb (kind_of c) 1 ≡ false → eqb (kind_of c) 2 ≡ true → matchByKind (suc n) x p c ≡ matchPath n x p c
-  unfolding matchNode
+  pub kind-path : eqb (kind_of c) 8 ≡ false → eqb (kind_of c) 1 ≡ false → eqb (kind_of c) 2 ≡ true → match_by_kind (suc n) x p c ≡ match_path n x p c
+  unfolding match_node
   kind-path h t k = rw (h, t, k)
 
   pub kind-rest : eqb (kind_of c) 8 ≡ false → eqb (kind_of c) 1 ≡ false → eqb (kind_of c) 2 ≡ false
-      → matchByKind (suc n) x p c ≡ matchSequences n x (children p) (children c)
-  unfolding matchNode
+      → match_by_kind (suc n) x p c ≡ match_sequences n x (children p) (children c)
+  unfolding match_node
   kind-rest h t k = rw (h, t, k)
 
   -- ---- two that may be absent
-  pub opt_both : some p ≡ true → some c ≡ true → matchOpt (suc n) x p c ≡ matchNode n x p c
-  unfolding matchNode
+  pub opt_both : some p ≡ true → some c ≡ true → match_opt (suc n) x p c ≡ match_node n x p c
+  unfolding match_node
   opt_both h k = rw (h, k)
 
-  pub opt_pattern : some p ≡ true → some c ≡ false → matchOpt (suc n) x p c ≡ failed
-  unfolding matchNode
+  pub opt_pattern : some p ≡ true → some c ≡ false → match_opt (suc n) x p c ≡ failed
+  unfolding match_node
   opt_pattern h k = rw (h, k)
 
-  pub opt_code : some p ≡ false → some c ≡ true → matchOpt (suc n) x p c ≡ failed
-  unfolding matchNode
+  pub opt_code : some p ≡ false → some c ≡ true → match_opt (suc n) x p c ≡ failed
+  unfolding match_node
   opt_code h k = rw (h, k)
 
-  pub opt_none : some p ≡ false → some c ≡ false → matchOpt (suc n) x p c ≡ matched []
-  unfolding matchNode
+  pub opt_none : some p ≡ false → some c ≡ false → match_opt (suc n) x p c ≡ matched []
+  unfolding match_node
   opt_none h k = rw (h, k)
 
   -- ---- paths
   pub path_resolved : is_resolved (x.path_at (number_of p)) ≡ true
-      → matchPath (suc n) x p c ≡ and_then (matchSegments n x (first_child 3 p) (first_child 3 c)) (given (same_resolution x p c))
-  unfolding matchNode
+      → match_path (suc n) x p c ≡ and_then (match_segments n x (first_child 3 p) (first_child 3 c)) (given (same_resolution x p c))
+  unfolding match_node
   path_resolved h = rw (h)
 
-  pub path-plain : is_resolved (x.path_at (number_of p)) ≡ false → matchPath (suc n) x p c ≡ matchSequences n x (children p) (children c)
-  unfolding matchNode
+  pub path-plain : is_resolved (x.path_at (number_of p)) ≡ false → match_path (suc n) x p c ≡ match_sequences n x (children p) (children c)
+  unfolding match_node
   path-plain h = rw (h)
 
-  pub segments-none : (some p && some c) ≡ false → matchSegments (suc n) x p c ≡ matched []
-  unfolding matchNode
+  pub segments-none : (some p && some c) ≡ false → match_segments (suc n) x p c ≡ matched []
+  unfolding match_node
   segments-none h = rw (h)
 
   pub segments-both : (some p && some c) ≡ true
-      → matchSegments (suc n) x p c ≡ and_then (matchOpt n x (first_child 5 p) (first_child 5 c)) (matchOpt n x (first_child 6 p) (first_child 6 c))
-  unfolding matchNode
+      → match_segments (suc n) x p c ≡ and_then (match_opt n x (first_child 5 p) (first_child 5 c)) (match_opt n x (first_child 6 p) (first_child 6 c))
+  unfolding match_node
   segments-both h = rw (h)
 
   -- ---- calls
-  pub ufcs_fits : first_fits x p c ≡ true → matchUfcs (suc n) x p c ≡ matchSequences n x (children p) (children c)
-  unfolding matchNode
-  ufcs_fits h = rw (h) (given_true (matchSequences n x (children p) (children c)))
+  pub ufcs_fits : first_fits x p c ≡ true → match_ufcs (suc n) x p c ≡ match_sequences n x (children p) (children c)
+  unfolding match_node
+  ufcs_fits h = rw (h) (given_true (match_sequences n x (children p) (children c)))
 
-  pub ufcs_other : first_fits x p c ≡ false → matchUfcs (suc n) x p c ≡ failed
-  unfolding matchNode
-  ufcs_other h = rw (h) (given_false (matchSequences n x (children p) (children c)))
+  pub ufcs_other : first_fits x p c ≡ false → match_ufcs (suc n) x p c ≡ failed
+  unfolding match_node
+  ufcs_other h = rw (h) (given_false (match_sequences n x (children p) (children c)))
 
   -- ---- sequences
-  pub sequence_end : some c ≡ false → matchSequences (suc n) x p c ≡ given (not (some (skip_trivia p)))
-  unfolding matchNode
+  pub sequence_end : some c ≡ false → match_sequences (suc n) x p c ≡ given (not (some (skip_trivia p)))
+  unfolding match_node
   sequence_end h = rw (h)
 
-  pub sequence_trivia : some c ≡ true → is_trivia c ≡ true → matchSequences (suc n) x p c ≡ and_then (note x.text c) (matchSequences n x (skip_trivia p) (rest c))
-  unfolding matchNode
+  pub sequence_trivia : some c ≡ true → is_trivia c ≡ true → match_sequences (suc n) x p c ≡ and_then (note x.text c) (match_sequences n x (skip_trivia p) (rest c))
+  unfolding match_node
   sequence_trivia h t = rw (h, t)
 
   pub sequence_token : some c ≡ true → is_trivia c ≡ false → is_a_token c ≡ true → matches_token x.sheet x.code x.text (skip_trivia p) c ≡ true
-      → matchSequences (suc n) x p c ≡ matchSequences n x (after_token x.sheet (skip_trivia p) c) (rest c)
-  unfolding matchNode
-  sequence_token h t k m = rw (h, t, k, m) (given_true (matchSequences n x (after_token x.sheet (skip_trivia p) c) (rest c)))
+      → match_sequences (suc n) x p c ≡ match_sequences n x (after_token x.sheet (skip_trivia p) c) (rest c)
+  unfolding match_node
+  sequence_token h t k m = rw (h, t, k, m) (given_true (match_sequences n x (after_token x.sheet (skip_trivia p) c) (rest c)))
 
   pub sequence_other-token : some c ≡ true → is_trivia c ≡ false → is_a_token c ≡ true → matches_token x.sheet x.code x.text (skip_trivia p) c ≡ false
-      → matchSequences (suc n) x p c ≡ failed
-  unfolding matchNode
-  sequence_other-token h t k m = rw (h, t, k, m) (given_false (matchSequences n x (after_token x.sheet (skip_trivia p) c) (rest c)))
+      → match_sequences (suc n) x p c ≡ failed
+  unfolding match_node
+  sequence_other-token h t k m = rw (h, t, k, m) (given_false (match_sequences n x (after_token x.sheet (skip_trivia p) c) (rest c)))
 
   pub sequence_node : some c ≡ true → is_trivia c ≡ false → is_a_token c ≡ false → is_a_node (skip_trivia p) ≡ true
-      → matchSequences (suc n) x p c ≡ and_then (matchNode n x (skip_trivia p) c) (matchSequences n x (rest (skip_trivia p)) (rest c))
-  unfolding matchNode
-  sequence_node h t k m = rw (h, t, k, m) (given_true (and_then (matchNode n x (skip_trivia p) c) (matchSequences n x (rest (skip_trivia p)) (rest c))))
+      → match_sequences (suc n) x p c ≡ and_then (match_node n x (skip_trivia p) c) (match_sequences n x (rest (skip_trivia p)) (rest c))
+  unfolding match_node
+  sequence_node h t k m = rw (h, t, k, m) (given_true (and_then (match_node n x (skip_trivia p) c) (match_sequences n x (rest (skip_trivia p)) (rest c))))
 
-  pub sequence_other : some c ≡ true → is_trivia c ≡ false → is_a_token c ≡ false → is_a_node (skip_trivia p) ≡ false → matchSequences (suc n) x p c ≡ failed
-  unfolding matchNode
-  sequence_other h t k m = rw (h, t, k, m) (given_false (and_then (matchNode n x (skip_trivia p) c) (matchSequences n x (rest (skip_trivia p)) (rest c))))
+  pub sequence_other : some c ≡ true → is_trivia c ≡ false → is_a_token c ≡ false → is_a_node (skip_trivia p) ≡ false → match_sequences (suc n) x p c ≡ failed
+  unfolding match_node
+  sequence_other h t k m = rw (h, t, k, m) (given_false (and_then (match_node n x (skip_trivia p) c) (match_sequences n x (rest (skip_trivia p)) (rest c))))
 
   -- ---- arguments
-  pub arguments_end : some (find_expression p) ≡ false → some (find_expression c) ≡ false → matchArguments (suc n) x p c ≡ matched []
-  unfolding matchNode
+  pub arguments_end : some (find_expression p) ≡ false → some (find_expression c) ≡ false → match_arguments (suc n) x p c ≡ matched []
+  unfolding match_node
   arguments_end h k = rw (h, k)
 
   pub arguments_turn : some (find_expression c) ≡ true
-      → matchArguments (suc n) x p c ≡ and_then (matchOpt n x (find_expression p) (find_expression c)) (matchArguments n x (rest (find_expression p)) (rest (find_expression c)))
-  unfolding matchNode
+      → match_arguments (suc n) x p c ≡ and_then (match_opt n x (find_expression p) (find_expression c)) (match_arguments n x (rest (find_expression p)) (rest (find_expression c)))
+  unfolding match_node
   arguments_turn k = by (some (find_expression p)) refl
     where
       by : (b : Bool) → some (find_expression p) ≡ b
-          → matchArguments (suc n) x p c ≡ and_then (matchOpt n x (find_expression p) (find_expression c)) (matchArguments n x (rest (find_expression p)) (rest (find_expression c)))
+          → match_arguments (suc n) x p c ≡ and_then (match_opt n x (find_expression p) (find_expression c)) (match_arguments n x (rest (find_expression p)) (rest (find_expression c)))
       by true e = rw (e)
       by false e = rw (e, k)

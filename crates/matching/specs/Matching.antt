@@ -14,7 +14,7 @@ use Rattle.captures.specs.declared.Answer.{Answer}
 use Rattle.captures.specs.declared.Turn.{Turn}
 use Rattle.matcher.specs.Matcher.{Matcher, slot_of, is_resolved, is_a_call}
 use Rattle.matcher.specs.Tokens.{matches_token, after_token, note}
-use Rattle.token_trees.specs.TokenTrees.{matchTokenTree}
+use Rattle.token_trees.specs.TokenTrees.{match_token_tree}
 use Rattle.calls.specs.Calls.{call_of, arguments_of, argument_of, receiver_of, first_fits, same_resolution, same_function, takes_receiver, receiver_fits, prefixed, arguments_left}
 use Rattle.matching.specs.RecordFields.{match_fields}
 use Rattle.ordered_fields.specs.Order.{next}
@@ -26,87 +26,87 @@ capture x slot c = cond (x.allows slot (node_in 66 66 c)) (matched (Bound slot (
 
 unfoldable mutual
   -- `attempt_match_node`
-  pub matchNode : ℕ → Matcher → Elems → Elems → Attempt
-  matchNode zero x p c = failed
-  matchNode (suc n) x p c =
+  pub match_node : ℕ → Matcher → Elems → Elems → Attempt
+  match_node zero x p c = failed
+  match_node (suc n) x p c =
       cond (ltb (slot_of x p) 8) (capture x (slot_of x p) c)
-      (cond (is_a_call (call_of x p) && node_in 65 65 c) (matchMethodCall n x p c)
-      (cond (is_a_call (call_of x p) && node_in 64 64 c) (matchUfcs n x p c)
-      (cond (eqb (kind_of p) (kind_of c)) (matchByKind n x p c) failed)))
+      (cond (is_a_call (call_of x p) && node_in 65 65 c) (match_method_call n x p c)
+      (cond (is_a_call (call_of x p) && node_in 64 64 c) (match_ufcs n x p c)
+      (cond (eqb (kind_of p) (kind_of c)) (match_by_kind n x p c) failed)))
 
   -- "Some kinds of nodes have special handling. For everything else, we fall back to default matching."
-  pub matchByKind : ℕ → Matcher → Elems → Elems → Attempt
-  matchByKind zero x p c = failed
-  matchByKind (suc n) x p c =
-      cond (eqb (kind_of c) 8) (matchRecordFieldList n x p c)
-      (cond (eqb (kind_of c) 1) (matchTokenTree n x p c)
-      (cond (eqb (kind_of c) 2) (matchPath n x p c) (matchSequences n x (children p) (children c))))
+  pub match_by_kind : ℕ → Matcher → Elems → Elems → Attempt
+  match_by_kind zero x p c = failed
+  match_by_kind (suc n) x p c =
+      cond (eqb (kind_of c) 8) (match_record_field_list n x p c)
+      (cond (eqb (kind_of c) 1) (match_token_tree n x p c)
+      (cond (eqb (kind_of c) 2) (match_path n x p c) (match_sequences n x (children p) (children c))))
 
   -- `attempt_match_sequences`, with `attempt_match_token`
-  pub matchSequences : ℕ → Matcher → Elems → Elems → Attempt
-  matchSequences zero x ps cs = failed
-  matchSequences (suc n) x ps cs =
+  pub match_sequences : ℕ → Matcher → Elems → Elems → Attempt
+  match_sequences zero x ps cs = failed
+  match_sequences (suc n) x ps cs =
       cond (some cs)
-      (cond (is_trivia cs) (and_then (note x.text cs) (matchSequences n x (skip_trivia ps) (rest cs)))
+      (cond (is_trivia cs) (and_then (note x.text cs) (match_sequences n x (skip_trivia ps) (rest cs)))
       (cond (is_a_token cs)
-      (and_then (given (matches_token x.sheet x.code x.text (skip_trivia ps) cs)) (matchSequences n x (after_token x.sheet (skip_trivia ps)
+      (and_then (given (matches_token x.sheet x.code x.text (skip_trivia ps) cs)) (match_sequences n x (after_token x.sheet (skip_trivia ps)
       cs) (rest cs)))
-      (and_then (given (is_a_node (skip_trivia ps))) (and_then (matchNode n x (skip_trivia ps) cs) (matchSequences n x (rest (skip_trivia ps)) (rest cs))))))
+      (and_then (given (is_a_node (skip_trivia ps))) (and_then (match_node n x (skip_trivia ps) cs) (match_sequences n x (rest (skip_trivia ps)) (rest cs))))))
       (given (not (some (skip_trivia ps))))
 
   -- `attempt_match_opt`
-  pub matchOpt : ℕ → Matcher → Elems → Elems → Attempt
-  matchOpt zero x p c = failed
-  matchOpt (suc n) x p c = cond (some p) (cond (some c) (matchNode n x p c) failed) (given (not (some c)))
+  pub match_opt : ℕ → Matcher → Elems → Elems → Attempt
+  match_opt zero x p c = failed
+  match_opt (suc n) x p c = cond (some p) (cond (some c) (match_node n x p c) failed) (given (not (some c)))
 
   -- `attempt_match_path`: "Match everything within the segment except for the name-ref, which is handled separately via comparing what the
   -- path resolves to"
-  pub matchPath : ℕ → Matcher → Elems → Elems → Attempt
-  matchPath zero x p c = failed
-  matchPath (suc n) x p c =
+  pub match_path : ℕ → Matcher → Elems → Elems → Attempt
+  match_path zero x p c = failed
+  match_path (suc n) x p c =
       cond (is_resolved (x.path_at (number_of p)))
-      (and_then (matchSegments n x (first_child 3 p) (first_child 3 c)) (given (same_resolution x p c)))
-      (matchSequences n x (children p) (children c))
+      (and_then (match_segments n x (first_child 3 p) (first_child 3 c)) (given (same_resolution x p c)))
+      (match_sequences n x (children p) (children c))
 
   -- two segments, where both are there: generic arguments, kind 5, and parenthesised ones, kind 6
-  pub matchSegments : ℕ → Matcher → Elems → Elems → Attempt
-  matchSegments zero x p c = failed
-  matchSegments (suc n) x p c =
+  pub match_segments : ℕ → Matcher → Elems → Elems → Attempt
+  match_segments zero x p c = failed
+  match_segments (suc n) x p c =
       cond (some p && some c)
-      (and_then (matchOpt n x (first_child 5 p) (first_child 5 c)) (matchOpt n x (first_child 6 p) (first_child 6 c)))
+      (and_then (match_opt n x (first_child 5 p) (first_child 5 c)) (match_opt n x (first_child 6 p) (first_child 6 c)))
       (matched [])
 
   -- `attempt_match_record_field_list`: by name, or by order from the start
-  pub matchRecordFieldList : ℕ → Matcher → Elems → Elems → Attempt
-  matchRecordFieldList zero x p c = failed
-  matchRecordFieldList (suc n) x p c =
-      match_fields (λ q e. matchOpt n x q e) (matchSequences n x (children p) (children c)) x (children p) (children c) (children p)
+  pub match_record_field_list : ℕ → Matcher → Elems → Elems → Attempt
+  match_record_field_list zero x p c = failed
+  match_record_field_list (suc n) x p c =
+      match_fields (λ q e. match_opt n x q e) (match_sequences n x (children p) (children c)) x (children p) (children c) (children p)
 
   -- `attempt_match_ufcs_to_ufcs`
-  pub matchUfcs : ℕ → Matcher → Elems → Elems → Attempt
-  matchUfcs zero x p c = failed
-  matchUfcs (suc n) x p c = and_then (given (first_fits x p c)) (matchSequences n x (children p) (children c))
+  pub match_ufcs : ℕ → Matcher → Elems → Elems → Attempt
+  match_ufcs zero x p c = failed
+  match_ufcs (suc n) x p c = and_then (given (first_fits x p c)) (match_sequences n x (children p) (children c))
 
   -- `attempt_match_ufcs_to_method_call`
-  pub matchMethodCall : ℕ → Matcher → Elems → Elems → Attempt
-  matchMethodCall zero x p c = failed
-  matchMethodCall (suc n) x p c =
+  pub match_method_call : ℕ → Matcher → Elems → Elems → Attempt
+  match_method_call zero x p c = failed
+  match_method_call (suc n) x p c =
       and_then (given (same_function x p c && some (first_child 7 p)))
-      (and_then (cond (takes_receiver x p c) (matchReceiver n x p c) (matched []))
-      (and_then (given (some (first_child 7 c))) (matchArguments n x (arguments_left x p c) (arguments_of c))))
+      (and_then (cond (takes_receiver x p c) (match_receiver n x p c) (matched []))
+      (and_then (given (some (first_child 7 c))) (match_arguments n x (arguments_left x p c) (arguments_of c))))
 
   -- the receiver, with the pattern's first argument
-  pub matchReceiver : ℕ → Matcher → Elems → Elems → Attempt
-  matchReceiver zero x p c = failed
-  matchReceiver (suc n) x p c =
-      and_then (given (receiver_fits x p c)) (and_then (matchOpt n x (argument_of p) (receiver_of c)) (prefixed x p c))
+  pub match_receiver : ℕ → Matcher → Elems → Elems → Attempt
+  match_receiver zero x p c = failed
+  match_receiver (suc n) x p c =
+      and_then (given (receiver_fits x p c)) (and_then (match_opt n x (argument_of p) (receiver_of c)) (prefixed x p c))
 
   -- arguments in turn
-  pub matchArguments : ℕ → Matcher → Elems → Elems → Attempt
-  matchArguments zero x ps cs = failed
-  matchArguments (suc n) x ps cs =
+  pub match_arguments : ℕ → Matcher → Elems → Elems → Attempt
+  match_arguments zero x ps cs = failed
+  match_arguments (suc n) x ps cs =
       cond (some (find_expression ps) || some (find_expression cs))
-      (and_then (matchOpt n x (find_expression ps) (find_expression cs)) (matchArguments n x (rest (find_expression ps)) (rest (find_expression cs))))
+      (and_then (match_opt n x (find_expression ps) (find_expression cs)) (match_arguments n x (rest (find_expression ps)) (rest (find_expression cs))))
       (matched [])
 
 -- An answer and a buffer are right for the first elements, or for what is left, of words of both sides. A rank stands behind five times the
@@ -115,66 +115,66 @@ abbrev pub enough : ℕ → List ℕ → List ℕ → ℕ
 enough rank p c = 5 * (length p + length c) + rank
 
 abbrev pub NodeGives : Matcher → Giving
-NodeGives x pe p ce c s out r out' = (n : ℕ) → enough 2 p c < n → Gives (matchNode n x (elems pe p) (elems ce c)) s out r out'
+NodeGives x pe p ce c s out r out' = (n : ℕ) → enough 2 p c < n → Gives (match_node n x (elems pe p) (elems ce c)) s out r out'
 
 abbrev pub ByKindGives : Matcher → Giving
-ByKindGives x pe p ce c s out r out' = (n : ℕ) → enough 1 p c < n → Gives (matchByKind n x (elems pe p) (elems ce c)) s out r out'
+ByKindGives x pe p ce c s out r out' = (n : ℕ) → enough 1 p c < n → Gives (match_by_kind n x (elems pe p) (elems ce c)) s out r out'
 
 abbrev pub SequencesGive : Matcher → Giving
-SequencesGive x pe p ce c s out r out' = (n : ℕ) → enough 4 p c < n → Gives (matchSequences n x (elems pe p) (elems ce c)) s out r out'
+SequencesGive x pe p ce c s out r out' = (n : ℕ) → enough 4 p c < n → Gives (match_sequences n x (elems pe p) (elems ce c)) s out r out'
 
 abbrev pub OptGives : Matcher → Giving
-OptGives x pe p ce c s out r out' = (n : ℕ) → enough 3 p c < n → Gives (matchOpt n x (elems pe p) (elems ce c)) s out r out'
+OptGives x pe p ce c s out r out' = (n : ℕ) → enough 3 p c < n → Gives (match_opt n x (elems pe p) (elems ce c)) s out r out'
 
 abbrev pub PathGives : Matcher → Giving
-PathGives x pe p ce c s out r out' = (n : ℕ) → enough 0 p c < n → Gives (matchPath n x (elems pe p) (elems ce c)) s out r out'
+PathGives x pe p ce c s out r out' = (n : ℕ) → enough 0 p c < n → Gives (match_path n x (elems pe p) (elems ce c)) s out r out'
 
 abbrev pub SegmentsGive : Matcher → Giving
-SegmentsGive x pe p ce c s out r out' = (n : ℕ) → enough 0 p c < n → Gives (matchSegments n x (elems pe p) (elems ce c)) s out r out'
+SegmentsGive x pe p ce c s out r out' = (n : ℕ) → enough 0 p c < n → Gives (match_segments n x (elems pe p) (elems ce c)) s out r out'
 
 abbrev pub RecordGives : Matcher → Giving
-RecordGives x pe p ce c s out r out' = (n : ℕ) → enough 0 p c < n → Gives (matchRecordFieldList n x (elems pe p) (elems ce c)) s out r out'
+RecordGives x pe p ce c s out r out' = (n : ℕ) → enough 0 p c < n → Gives (match_record_field_list n x (elems pe p) (elems ce c)) s out r out'
 
 abbrev pub UfcsGives : Matcher → Giving
-UfcsGives x pe p ce c s out r out' = (n : ℕ) → enough 0 p c < n → Gives (matchUfcs n x (elems pe p) (elems ce c)) s out r out'
+UfcsGives x pe p ce c s out r out' = (n : ℕ) → enough 0 p c < n → Gives (match_ufcs n x (elems pe p) (elems ce c)) s out r out'
 
 abbrev pub MethodCallGives : Matcher → Giving
-MethodCallGives x pe p ce c s out r out' = (n : ℕ) → enough 1 p c < n → Gives (matchMethodCall n x (elems pe p) (elems ce c)) s out r out'
+MethodCallGives x pe p ce c s out r out' = (n : ℕ) → enough 1 p c < n → Gives (match_method_call n x (elems pe p) (elems ce c)) s out r out'
 
 abbrev pub ReceiverGives : Matcher → Giving
-ReceiverGives x pe p ce c s out r out' = (n : ℕ) → enough 0 p c < n → Gives (matchReceiver n x (elems pe p) (elems ce c)) s out r out'
+ReceiverGives x pe p ce c s out r out' = (n : ℕ) → enough 0 p c < n → Gives (match_receiver n x (elems pe p) (elems ce c)) s out r out'
 
 abbrev pub ArgumentsGive : Matcher → Giving
-ArgumentsGive x pe p ce c s out r out' = (n : ℕ) → enough 4 p c < n → Gives (matchArguments n x (elems pe p) (elems ce c)) s out r out'
+ArgumentsGive x pe p ce c s out r out' = (n : ℕ) → enough 4 p c < n → Gives (match_arguments n x (elems pe p) (elems ce c)) s out r out'
 
 -- for one of the pattern's siblings, and for all of them, by name
 abbrev pub FieldGives : Bool → Matcher → ℕ → List ℕ → ℕ → ℕ → List ℕ → ℕ → State → List ℕ → Answer → List ℕ → Type 0
 FieldGives leaves x pe ps at ce cs beside s out r out' =
     (n : ℕ) → enough 4 ps cs < n
-    → Gives (field_by_name leaves (λ q e. matchOpt n x q e) x (elems pe ps) (elems ce cs) (elems (pe + at) (drop (at * 3) ps)) (elems (ce + beside)
+    → Gives (field_by_name leaves (λ q e. match_opt n x q e) x (elems pe ps) (elems ce cs) (elems (pe + at) (drop (at * 3) ps)) (elems (ce + beside)
     (drop (beside * 3) cs))) s out r out'
 
 abbrev pub ByNameGives : Bool → Matcher → ℕ → List ℕ → ℕ → ℕ → List ℕ → ℕ → State → List ℕ → Answer → List ℕ → Type 0
 ByNameGives leaves x pe ps at ce cs beside s out r out' =
     (n : ℕ) → enough 4 ps cs < n
-    → Gives (by_name leaves (λ q e. matchOpt n x q e) x (elems pe ps) (elems ce cs) (elems (pe + at) (drop (at * 3) ps)) (elems (ce + beside) (drop
+    → Gives (by_name leaves (λ q e. match_opt n x q e) x (elems pe ps) (elems ce cs) (elems (pe + at) (drop (at * 3) ps)) (elems (ce + beside) (drop
     (beside * 3) cs))) s out r out'
 
 -- what is left of the pattern's siblings and the code's, by order, and then the comments of pairs left out, as long as no name was a placeholder
 abbrev pub owed : Bool → ℕ → Matcher → Elems → Elems → Elems → List Event
-owed before n x cs q d = cond before (again (λ q e. matchOpt n x q e) x cs q d) []
+owed before n x cs q d = cond before (again (λ q e. match_opt n x q e) x cs q d) []
 
 abbrev pub MeasuredGives : Bool → Matcher → ℕ → List ℕ → ℕ → ℕ → List ℕ → ℕ → State → List ℕ → Answer → List ℕ → Type 0
 MeasuredGives before x pe ps at ce cs i s out r out' =
     (n m : ℕ) → enough 4 (drop (at * 3) ps) (drop (i * 3) cs) < n → enough 4 ps cs < m
-    → Gives (and_then (matchSequences n x (elems (pe + at) (drop (at * 3) ps)) (elems (ce + i) (drop (i * 3) cs)))
+    → Gives (and_then (match_sequences n x (elems (pe + at) (drop (at * 3) ps)) (elems (ce + i) (drop (i * 3) cs)))
     (matched (owed before m x (elems ce cs) (elems (pe + at) (drop (at * 3) ps)) (elems (ce + i) (drop (i * 3) cs))))) s out r out'
 
 -- for one of the pattern's siblings and one of the code's, where they are given
 abbrev pub NotedGives : Bool → Matcher → ℕ → List ℕ → ℕ → ℕ → List ℕ → ℕ → State → List ℕ → Answer → List ℕ → Type 0
 NotedGives named x pe ps at ce cs of s out r out' =
     (n : ℕ) → enough 3 (drop (at * 3) ps) (drop (of * 3) cs) < n
-    → Gives (cond named (matchOpt n x (elems (pe + at) (drop (at * 3) ps)) (elems (ce + of) (drop (of * 3) cs))) (matched [])) s out r out'
+    → Gives (cond named (match_opt n x (elems (pe + at) (drop (at * 3) ps)) (elems (ce + of) (drop (of * 3) cs))) (matched [])) s out r out'
 
 -- what a turn over siblings passed, and that it acted as events say
 pub record Went (x : Matcher) (pe : ℕ) (p : List ℕ) (ce : ℕ) (c : List ℕ) (s : State) (out : List ℕ) (r : Turn) (out' : List ℕ) : Type 0 where
@@ -197,5 +197,5 @@ pub record Stood (a : Attempt) (from : ℕ) (s : State) (out : List ℕ) : Type 
 abbrev pub Stands : Bool → Matcher → ℕ → List ℕ → ℕ → ℕ → List ℕ → ℕ → State → List ℕ → Type 0
 Stands before x pe ps at ce cs from s out =
     (n : ℕ) → enough 4 ps cs < n
-    → Stood (cond before (by_name false (λ q e. matchOpt n x q e) x (elems pe ps) (elems ce cs) (elems (pe + at) (drop (at * 3) ps)) none) (matched
+    → Stood (cond before (by_name false (λ q e. match_opt n x q e) x (elems pe ps) (elems ce cs) (elems (pe + at) (drop (at * 3) ps)) none) (matched
     [])) from s out

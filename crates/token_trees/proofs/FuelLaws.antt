@@ -13,7 +13,7 @@ use Rattle.captures.specs.Attempts.{Event, Attempt, failed, matched, and_then}
 use Rattle.captures.proofs.PartLaws.{fails_not}
 use Rattle.matcher.specs.Matcher.{Matcher, is_placeholder}
 use Rattle.token_trees.specs.Runs.{Run}
-use Rattle.token_trees.specs.TokenTrees.{matchTokenTree, matchTokens, matchRun}
+use Rattle.token_trees.specs.TokenTrees.{match_token_tree, match_tokens, match_run}
 
 -- ---- where one attempt matches, the other does, with the same events
 abbrev pub Below : Attempt → Attempt → Type 0
@@ -48,13 +48,13 @@ below_more f step m n h = let e : m + (n - m) ≡ n = omega (arith, h) in subst 
 
 -- ---- one more call
 mutual
-  unfolding matchTokenTree
+  unfolding match_token_tree
 
-  pub step-tree : (n : ℕ) (x : Matcher) (p c : Elems) → Below (matchTokenTree n x p c) (matchTokenTree (suc n) x p c)
+  pub step-tree : (n : ℕ) (x : Matcher) (p c : Elems) → Below (match_token_tree n x p c) (match_token_tree (suc n) x p c)
   step-tree zero x p c = below-failed _
   step-tree (suc n) x p c = step-tokens n x _ _
 
-  pub step-tokens : (n : ℕ) (x : Matcher) (ps cs : Elems) → Below (matchTokens n x ps cs) (matchTokens (suc n) x ps cs)
+  pub step-tokens : (n : ℕ) (x : Matcher) (ps cs : Elems) → Below (match_tokens n x ps cs) (match_tokens (suc n) x ps cs)
   step-tokens zero x ps cs = below-failed _
   step-tokens (suc n) x ps cs =
       below_cond (some cs)
@@ -64,7 +64,7 @@ mutual
       (below_then (below_refl _) (below_then (step-tree n x _ _) (step-tokens n x _ _))))))
       (below_refl _)
 
-  pub step_run : (n : ℕ) (x : Matcher) (p c : Elems) (u : Run) → Below (matchRun n x p c u) (matchRun (suc n) x p c u)
+  pub step_run : (n : ℕ) (x : Matcher) (p c : Elems) (u : Run) → Below (match_run n x p c u) (match_run (suc n) x p c u)
   step_run zero x p c u = below-failed _
   step_run (suc n) x p c u =
       below_then (below_cond u.is_tree_of (step-tree n x _ _) (below_refl _)) (below_then (below_refl _) (step-tokens n x _ _))

@@ -25,7 +25,7 @@ use Rattle.matcher.specs.Tokens.{matches_token, after_token, note}
 use Rattle.matcher.proofs.TokenLaws.{pass_more}
 use Rattle.token_trees.specs.Runs.{Run, run, behind_run}
 use Rattle.token_trees.specs.declared.runs.Run as declared
-use Rattle.token_trees.specs.TokenTrees.{capture, matchTokenTree, matchTokens, matchRun, TokensGive, TokenTreeGives, RunGives}
+use Rattle.token_trees.specs.TokenTrees.{capture, match_token_tree, match_tokens, match_run, TokensGive, TokenTreeGives, RunGives}
 use Rattle.token_trees.proofs.RunLaws.{run-ended, Reach}
 
 -- ---- comments
@@ -45,38 +45,38 @@ pub by_suc : (P : ℕ → Type 0) {k : ℕ} → ((m : ℕ) → k ≤ m → P (su
 by_suc P f zero h = absurd (not-suc-le-zero h)
 by_suc P f (suc m) h = f m (le_of_suc-le-suc h)
 
-tree-step : (n : ℕ) (x : Matcher) (p c : Elems) → matchTokenTree (suc n) x p c ≡ matchTokens n x (children p) (children c)
-unfolding matchTokenTree
+tree-step : (n : ℕ) (x : Matcher) (p c : Elems) → match_token_tree (suc n) x p c ≡ match_tokens n x (children p) (children c)
+unfolding match_token_tree
 tree-step n x p c = refl
 
-run_step : (n : ℕ) (x : Matcher) (p c : Elems) (u : Run) → matchRun (suc n) x p c u ≡
-    and_then (cond u.is_tree_of (matchTokenTree n x (skip_trivia u.pattern) u.code) (matched []))
-    (and_then (capture x p c u) (matchTokens n x (behind_run u) (rest u.code)))
-unfolding matchRun
+run_step : (n : ℕ) (x : Matcher) (p c : Elems) (u : Run) → match_run (suc n) x p c u ≡
+    and_then (cond u.is_tree_of (match_token_tree n x (skip_trivia u.pattern) u.code) (matched []))
+    (and_then (capture x p c u) (match_tokens n x (behind_run u) (rest u.code)))
+unfolding match_run
 run_step n x p c u = refl
 
 module _ (n : ℕ) (x : Matcher) (ps q cs : Elems) (e : q ≡ skip_trivia ps) where
-  tokens_end : some cs ≡ false → matchTokens (suc n) x ps cs ≡ given (not (some q))
-  unfolding matchTokens
+  tokens_end : some cs ≡ false → match_tokens (suc n) x ps cs ≡ given (not (some q))
+  unfolding match_tokens
   tokens_end h = rw (h, e)
 
   module _ (h : some cs ≡ true) where
-    tokens_run : is_placeholder x q ≡ true → matchTokens (suc n) x ps cs ≡ matchRun n x q cs (run x.code x.text (rest q) cs)
-    unfolding matchTokens
+    tokens_run : is_placeholder x q ≡ true → match_tokens (suc n) x ps cs ≡ match_run n x q cs (run x.code x.text (rest q) cs)
+    unfolding match_tokens
     tokens_run t = rw (h, ← e, t)
 
-    tokens_trivia : is_placeholder x q ≡ false → is_trivia cs ≡ true → matchTokens (suc n) x ps cs ≡ and_then (note x.text cs) (matchTokens n x q (rest cs))
-    unfolding matchTokens
+    tokens_trivia : is_placeholder x q ≡ false → is_trivia cs ≡ true → match_tokens (suc n) x ps cs ≡ and_then (note x.text cs) (match_tokens n x q (rest cs))
+    unfolding match_tokens
     tokens_trivia t u = rw (h, ← e, t, u)
 
     tokens_token : is_placeholder x q ≡ false → is_trivia cs ≡ false → is_a_token cs ≡ true
-        → matchTokens (suc n) x ps cs ≡ and_then (given (matches_token x.sheet x.code x.text q cs)) (matchTokens n x (after_token x.sheet q cs) (rest cs))
-    unfolding matchTokens
+        → match_tokens (suc n) x ps cs ≡ and_then (given (matches_token x.sheet x.code x.text q cs)) (match_tokens n x (after_token x.sheet q cs) (rest cs))
+    unfolding match_tokens
     tokens_token t u w = rw (h, ← e, t, u, w)
 
     tokens_node : is_placeholder x q ≡ false → is_trivia cs ≡ false → is_a_token cs ≡ false
-        → matchTokens (suc n) x ps cs ≡ and_then (given (is_a_node q)) (and_then (matchTokenTree n x q cs) (matchTokens n x (rest q) (rest cs)))
-    unfolding matchTokens
+        → match_tokens (suc n) x ps cs ≡ and_then (given (is_a_node q)) (and_then (match_token_tree n x q cs) (match_tokens n x (rest q) (rest cs)))
+    unfolding match_tokens
     tokens_node t u w = rw (h, ← e, t, u, w)
 
 -- ---- two nodes, and what is left of them where the code is at its end
@@ -85,7 +85,7 @@ module _ (x : Matcher) (pe : ℕ) (p : List ℕ) (ce : ℕ) (c : List ℕ) where
   pub tree_gives : (ps cs : List ℕ) → 3 + length ps ≤ length p → 3 + length cs ≤ length c → elems (pe + 1) ps ≡ children (elems pe p) → elems (ce + 1) cs ≡ children (elems ce c)
       → (s : State) (out : List ℕ) (a : Answer) (end : List ℕ) → TokensGive x (pe + 1) ps (ce + 1) cs s out a end → TokenTreeGives x pe p ce c s out a end
   tree_gives ps cs h k e f s out a end g =
-      by_suc (λ n. Gives (matchTokenTree n x (elems pe p) (elems ce c)) s out a end)
+      by_suc (λ n. Gives (match_token_tree n x (elems pe p) (elems ce c)) s out a end)
       (λ m b. rw (tree-step m x (elems pe p) (elems ce c), ← e, ← f) (g m (omega (arith, h, k, b))))
 
   module _ (h : length c < 3) (k : ℕ) (q : List ℕ) (e : elems (pe + k) q ≡ skip_trivia (elems pe p)) (s : State) (out : List ℕ) where
@@ -94,12 +94,12 @@ module _ (x : Matcher) (pe : ℕ) (p : List ℕ) (ce : ℕ) (c : List ℕ) where
 
     pub tokens_done : length q < 3 → TokensGive x pe p ce c s out (record { ok = true; state = s }) out
     tokens_done t =
-        by_suc (λ n. Gives (matchTokens n x (elems pe p) (elems ce c)) s out (record { ok = true; state = s }) out)
+        by_suc (λ n. Gives (match_tokens n x (elems pe p) (elems ce c)) s out (record { ok = true; state = s }) out)
         (λ m b. rw (tokens_end m x (elems pe p) (elems (pe + k) q) (elems ce c) e none_left, some_is (pe + k) q, lt-leb 3 (length q) t) (gives_done s out))
 
     pub tokens_left : 3 ≤ length q → TokensGive x pe p ce c s out no_match out
     tokens_left t =
-        by_suc (λ n. Gives (matchTokens n x (elems pe p) (elems ce c)) s out no_match out)
+        by_suc (λ n. Gives (match_tokens n x (elems pe p) (elems ce c)) s out no_match out)
         (λ m b. rw (tokens_end m x (elems pe p) (elems (pe + k) q) (elems ce c) e none_left, some_is (pe + k) q, le-leb 3 (length q) t) (gives_failed s out out refl))
 
 -- ---- one turn
@@ -112,20 +112,20 @@ steps_none p c = record { pattern = omega arith; code = omega arith; falls = λ 
 
 -- where a turn goes on, the attempt that is left leads to the whole, at each bound
 module _ (x : Matcher) (pe : ℕ) (p : List ℕ) (ce : ℕ) (c : List ℕ) (s : State) (out : List ℕ) (out' : List ℕ) where
-  turn_stops : ((m : ℕ) → 3 * (length p + length c) < m → Gives (matchTokens (suc m) x (elems pe p) (elems ce c)) s out no_match out') → TurnOf (TokensGive x) (TokensGive x) pe p ce c s out stopped out'
+  turn_stops : ((m : ℕ) → 3 * (length p + length c) < m → Gives (match_tokens (suc m) x (elems pe p) (elems ce c)) s out no_match out') → TurnOf (TokensGive x) (TokensGive x) pe p ce c s out stopped out'
   turn_stops f = record {
     goes = λ h. absurd (false≢true h);
-    stops = λ h. by_suc (λ n. Gives (matchTokens n x (elems pe p) (elems ce c)) s out no_match out') (λ m b. f m (omega (arith, b)));
+    stops = λ h. by_suc (λ n. Gives (match_tokens n x (elems pe p) (elems ce c)) s out no_match out') (λ m b. f m (omega (arith, b)));
   }
 
   module _ (n i : ℕ) (t : State) (h : n * 3 ≤ length p) (k : i * 3 ≤ length c) (l : 1 ≤ i) where
     falls : 3 * (length (drop (n * 3) p) + length (drop (i * 3) c)) + 1 < 3 * (length p + length c)
     falls = omega (arith, h, k, l, length-drop (n * 3) p, length-drop (i * 3) c)
 
-    turn_goes : ((m : ℕ) → 3 * (length p + length c) < m → Leads (matchTokens m x (elems (pe + n) (drop (n * 3) p)) (elems (ce + i) (drop (i * 3) c))) (matchTokens (suc m) x (elems pe p) (elems ce c)) s out t out')
+    turn_goes : ((m : ℕ) → 3 * (length p + length c) < m → Leads (match_tokens m x (elems (pe + n) (drop (n * 3) p)) (elems (ce + i) (drop (i * 3) c))) (match_tokens (suc m) x (elems pe p) (elems ce c)) s out t out')
         → TurnOf (TokensGive x) (TokensGive x) pe p ce c s out (record { go = true; p = n; c = i; state = t }) out'
     turn_goes f = record {
-      goes = λ e a end g. by_suc (λ m. Gives (matchTokens m x (elems pe p) (elems ce c)) s out a end) (λ m b. f m (omega (arith, b)) a end (g m (omega (arith, falls, b))));
+      goes = λ e a end g. by_suc (λ m. Gives (match_tokens m x (elems pe p) (elems ce c)) s out a end) (λ m b. f m (omega (arith, b)) a end (g m (omega (arith, falls, b))));
       stops = λ e. absurd (false≢true (sym e));
     }
 
@@ -148,7 +148,7 @@ module _ (x : Matcher) (pe : ℕ) (p : List ℕ) (ce : ℕ) (c : List ℕ) (s : 
   module _ (t : is_placeholder x (elems (pe + k) y) ≡ true) (u : Turn) (out' : List ℕ) (w : TurnOf (TokensGive x) (RunGives x) (pe + k) y ce c s out u out') where
     run_tokens : (a : Answer) (end : List ℕ) → RunGives x (pe + k) y ce c s out a end → TokensGive x pe p ce c s out a end
     run_tokens a end g =
-        by_suc (λ n. Gives (matchTokens n x (elems pe p) (elems ce c)) s out a end)
+        by_suc (λ n. Gives (match_tokens n x (elems pe p) (elems ce c)) s out a end)
         (λ m b. rw (tokens_run m x (elems pe p) (elems (pe + k) y) (elems ce c) known.first there t) (g m (omega (arith, known.few, b))))
 
     pub turn_run : u.go ≡ true → TurnOf (TokensGive x) (TokensGive x) pe p ce c s out (record { go = true; p = k + u.p; c = u.c; state = u.state }) out'
@@ -171,7 +171,7 @@ module _ (x : Matcher) (pe : ℕ) (p : List ℕ) (ce : ℕ) (c : List ℕ) (s : 
           → TurnOf (TokensGive x) (TokensGive x) pe p ce c s out (record { go = true; p = k; c = n; state = r }) out'
       turn_trivia r out' u f =
           turn_goes x pe p ce c s out out' k n r (omega (arith, known.few)) low pos
-          (λ m b. rw (← known.is, next, tokens_trivia m x (elems pe p) (elems (pe + k) y) (elems ce c) known.first there t u) (f (matchTokens m x (elems (pe + k) y) (rest (elems ce c)))))
+          (λ m b. rw (← known.is, next, tokens_trivia m x (elems pe p) (elems (pe + k) y) (elems ce c) known.first there t u) (f (match_tokens m x (elems (pe + k) y) (rest (elems ce c)))))
 
       pub turn_token : (f : ℕ) → f * 3 ≤ length y → is_trivia (elems ce c) ≡ false → is_a_token (elems ce c) ≡ true
           → (ok : Bool) → ok ≡ matches_token x.sheet x.code x.text (elems (pe + k) y) (elems ce c) → ok ≡ true → elems (pe + k + f) (drop (f * 3) y) ≡ after_token x.sheet (elems (pe + k) y) (elems ce c)
@@ -182,7 +182,7 @@ module _ (x : Matcher) (pe : ℕ) (p : List ℕ) (ce : ℕ) (c : List ℕ) (s : 
             tokens_token m x (elems pe p) (elems (pe + k) y) (elems ce c) known.first there t u w,
             ← a,
             o,
-            given_true (matchTokens m x (after_token x.sheet (elems (pe + k) y) (elems ce c)) (rest (elems ce c))),
+            given_true (match_tokens m x (after_token x.sheet (elems (pe + k) y) (elems ce c)) (rest (elems ce c))),
           ) (rw (further f, d, next) at g))
 
       pub turn_node : (f : ℕ) → f * 3 ≤ length y → elems (pe + k + f) (drop (f * 3) y) ≡ rest (elems (pe + k) y)
@@ -197,8 +197,8 @@ module _ (x : Matcher) (pe : ℕ) (p : List ℕ) (ce : ℕ) (c : List ℕ) (s : 
             next,
             tokens_node m x (elems pe p) (elems (pe + k) y) (elems ce c) known.first there t u w,
             a,
-            given_true (and_then (matchTokenTree m x (elems (pe + k) y) (elems ce c)) (matchTokens m x (rest (elems (pe + k) y)) (rest (elems ce c)))),
-          ) (leads_then (matchTokenTree m x (elems (pe + k) y) (elems ce c)) (matchTokens m x (rest (elems (pe + k) y)) (rest (elems ce c))) s out r out' (g m (omega (arith, known.few, b))) o))
+            given_true (and_then (match_token_tree m x (elems (pe + k) y) (elems ce c)) (match_tokens m x (rest (elems (pe + k) y)) (rest (elems ce c)))),
+          ) (leads_then (match_token_tree m x (elems (pe + k) y) (elems ce c)) (match_tokens m x (rest (elems (pe + k) y)) (rest (elems ce c))) s out r out' (g m (omega (arith, known.few, b))) o))
 
     pub turn_token_stops : is_trivia (elems ce c) ≡ false → is_a_token (elems ce c) ≡ true
         → (ok : Bool) → ok ≡ matches_token x.sheet x.code x.text (elems (pe + k) y) (elems ce c) → ok ≡ false → TurnOf (TokensGive x) (TokensGive x) pe p ce c s out stopped out
@@ -207,7 +207,7 @@ module _ (x : Matcher) (pe : ℕ) (p : List ℕ) (ce : ℕ) (c : List ℕ) (s : 
           tokens_token m x (elems pe p) (elems (pe + k) y) (elems ce c) known.first there t u w,
           ← a,
           o,
-          given_false (matchTokens m x (after_token x.sheet (elems (pe + k) y) (elems ce c)) (rest (elems ce c))),
+          given_false (match_tokens m x (after_token x.sheet (elems (pe + k) y) (elems ce c)) (rest (elems ce c))),
         ) (gives_failed s out out refl))
 
     pub turn_node_stops : is_trivia (elems ce c) ≡ false → is_a_token (elems ce c) ≡ false → is_a_node (elems (pe + k) y) ≡ true
@@ -216,8 +216,8 @@ module _ (x : Matcher) (pe : ℕ) (p : List ℕ) (ce : ℕ) (c : List ℕ) (s : 
         turn_stops x pe p ce c s out out' (λ m b. rw (
           tokens_node m x (elems pe p) (elems (pe + k) y) (elems ce c) known.first there t u w,
           a,
-          given_true (and_then (matchTokenTree m x (elems (pe + k) y) (elems ce c)) (matchTokens m x (rest (elems (pe + k) y)) (rest (elems ce c)))),
-        ) (fails_then (matchTokenTree m x (elems (pe + k) y) (elems ce c)) (matchTokens m x (rest (elems (pe + k) y)) (rest (elems ce c))) s out r out' (g m (omega (arith, known.few, b))) o))
+          given_true (and_then (match_token_tree m x (elems (pe + k) y) (elems ce c)) (match_tokens m x (rest (elems (pe + k) y)) (rest (elems ce c)))),
+        ) (fails_then (match_token_tree m x (elems (pe + k) y) (elems ce c)) (match_tokens m x (rest (elems (pe + k) y)) (rest (elems ce c))) s out r out' (g m (omega (arith, known.few, b))) o))
 
     pub turn_other_stops : is_trivia (elems ce c) ≡ false → is_a_token (elems ce c) ≡ false → is_a_node (elems (pe + k) y) ≡ false
         → TurnOf (TokensGive x) (TokensGive x) pe p ce c s out stopped out
@@ -225,7 +225,7 @@ module _ (x : Matcher) (pe : ℕ) (p : List ℕ) (ce : ℕ) (c : List ℕ) (s : 
         turn_stops x pe p ce c s out out (λ m b. rw (
           tokens_node m x (elems pe p) (elems (pe + k) y) (elems ce c) known.first there t u w,
           a,
-          given_false (and_then (matchTokenTree m x (elems (pe + k) y) (elems ce c)) (matchTokens m x (rest (elems (pe + k) y)) (rest (elems ce c)))),
+          given_false (and_then (match_token_tree m x (elems (pe + k) y) (elems ce c)) (match_tokens m x (rest (elems (pe + k) y)) (rest (elems ce c)))),
         ) (gives_failed s out out refl))
 
 -- ---- the turns of `run_turn`
@@ -236,7 +236,7 @@ run_at x pe p ce c = run x.code x.text (rest (elems pe p)) (elems ce c)
 
 -- the subtree that a run stops at, where it does at one
 abbrev subtree : ℕ → Matcher → Run → Attempt
-subtree n x u = cond u.is_tree_of (matchTokenTree n x (skip_trivia u.pattern) u.code) (matched [])
+subtree n x u = cond u.is_tree_of (match_token_tree n x (skip_trivia u.pattern) u.code) (matched [])
 
 module _ (x : Matcher) (pe : ℕ) (p : List ℕ) (ce : ℕ) (c : List ℕ) (s : State) (out : List ℕ) where
   -- it is matched, or there is none; then the placeholder is bound
@@ -249,9 +249,9 @@ module _ (x : Matcher) (pe : ℕ) (p : List ℕ) (ce : ℕ) (c : List ℕ) (s : 
     goes = λ b a end g.
         let v = Bound (slot_of x (elems pe p)) (binding (elems ce c) (run_at x pe p ce c).last 0 0) in
         let lower : 3 * (length (drop (n * 3) p) + length (drop (i * 3) c)) + 1 < 3 * (length p + length c) = omega (arith, h, k, l, length-drop (n * 3) p, length-drop (i * 3) c) in
-        by_suc (λ m. Gives (matchRun m x (elems pe p) (elems ce c) (run_at x pe p ce c)) s out a end)
+        by_suc (λ m. Gives (match_run m x (elems pe p) (elems ce c) (run_at x pe p ce c)) s out a end)
         (λ m j.
-        let left = matchTokens m x (behind_run (run_at x pe p ce c)) (rest (run_at x pe p ce c).code) in
+        let left = match_tokens m x (behind_run (run_at x pe p ce c)) (rest (run_at x pe p ce c).code) in
         rw (run_step m x (elems pe p) (elems ce c) (run_at x pe p ce c))
         (first m j (and_then (matched (v ∷ [])) left) a end (leads_event v left s₁ out' a end (rw (e, f, d) at (g m (omega (arith, lower, j)))))));
     stops = λ b. absurd (false≢true (sym b));
@@ -260,10 +260,10 @@ module _ (x : Matcher) (pe : ℕ) (p : List ℕ) (ce : ℕ) (c : List ℕ) (s : 
   module _ (ie : ℕ) (q : List ℕ) (je : ℕ) (left : List ℕ) (e : elems ie q ≡ skip_trivia (run_at x pe p ce c).pattern) (f : elems je left ≡ (run_at x pe p ce c).code)
       (few : length q + length left < length p + length c) (t : (run_at x pe p ce c).is_tree_of ≡ true) (r : Answer) (out' : List ℕ) (g : TokenTreeGives x ie q je left s out r out') where
     tree-first : r.ok ≡ true → (m : ℕ) → 3 * (length p + length c) ≤ m → (b : Attempt) → Leads b (and_then (subtree m x (run_at x pe p ce c)) b) s out r.state out'
-    tree-first o m j b = rw (t, ← e, ← f) (leads_then (matchTokenTree m x (elems ie q) (elems je left)) b s out r out' (g m (omega (arith, few, j))) o)
+    tree-first o m j b = rw (t, ← e, ← f) (leads_then (match_token_tree m x (elems ie q) (elems je left)) b s out r out' (g m (omega (arith, few, j))) o)
 
     tree_fails_lem : r.ok ≡ false → (m : ℕ) → 3 * (length p + length c) ≤ m → (b : Attempt) → Gives (and_then (subtree m x (run_at x pe p ce c)) b) s out no_match out'
-    tree_fails_lem o m j b = rw (t, ← e, ← f) (fails_then (matchTokenTree m x (elems ie q) (elems je left)) b s out r out' (g m (omega (arith, few, j))) o)
+    tree_fails_lem o m j b = rw (t, ← e, ← f) (fails_then (match_token_tree m x (elems ie q) (elems je left)) b s out r out' (g m (omega (arith, few, j))) o)
 
   none_first : (run_at x pe p ce c).is_tree_of ≡ false → (m : ℕ) → 3 * (length p + length c) ≤ m → (b : Attempt) → Leads b (and_then (subtree m x (run_at x pe p ce c)) b) s out s out
   none_first t m j b r end g = rw (t, then_nothing b) g
@@ -272,7 +272,7 @@ module _ (x : Matcher) (pe : ℕ) (p : List ℕ) (ce : ℕ) (c : List ℕ) (s : 
       → TurnOf (TokensGive x) (RunGives x) pe p ce c s out stopped out'
   run_stops out' f = record {
     goes = λ b. absurd (false≢true b);
-    stops = λ b. by_suc (λ m. Gives (matchRun m x (elems pe p) (elems ce c) (run_at x pe p ce c)) s out no_match out')
+    stops = λ b. by_suc (λ m. Gives (match_run m x (elems pe p) (elems ce c) (run_at x pe p ce c)) s out no_match out')
         (λ m j. rw (run_step m x (elems pe p) (elems ce c) (run_at x pe p ce c)) (f m j _));
   }
 

@@ -16,7 +16,7 @@ use Rattle.captures.specs.declared.Answer.{Answer}
 use Rattle.captures.specs.Effects.{Gives}
 use Rattle.matcher.specs.declared.marks.Context.{Context}
 use Rattle.matcher.specs.Matcher.{matcher_of}
-use Rattle.matching.specs.Matching.{matchNode}
+use Rattle.matching.specs.Matching.{match_node}
 use Rattle.checks.specs.declared.Restriction.{Restriction}
 use Rattle.get_match.specs.Templates.{renders}
 use Rattle.get_match.specs.GetMatch.{is_within, try_match}
@@ -98,7 +98,7 @@ module _ (p rule file marks words facts paths templateFacts : List ℕ) (cx : Co
       -- up to another element there are only nodes of kinds that the pattern never matches
       pub lays_on : (low high end : ℕ) → node ≤ end
           → ((n : ℕ) (c : Elems) → node_in 1 4095 c ≡ true → node_in low high c ≡ false
-          → matchNode n (matcher_of rule file marks words facts cx) (tree p) c ≡ failed)
+          → match_node n (matcher_of rule file marks words facts cx) (tree p) c ≡ failed)
           → ((e : ℕ) → node ≤ e → e < end → node_in low high (element_at e (tree words)) ≡ false) → LaysBelow end count table
       lays_on low high end le never others x root calls f t n l cs laid =
           rw (below_on (tried x root n) (tree words) number node end le

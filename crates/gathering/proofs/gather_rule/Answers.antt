@@ -17,8 +17,8 @@ use Rattle.gathering.proofs.gather_rule.Goals as goal
 abbrev among : Start → List ℕ → List ℕ → Pair
 among s words bytes = pair_at s.args.rule.pair s.args.directory.now words bytes
 
-abbrev allWords : Start → List ℕ
-allWords s = s.args.words.now
+abbrev all_words : Start → List ℕ
+all_words s = s.args.words.now
 
 abbrev all_bytes : Start → List ℕ
 all_bytes s = s.args.bytes.now
@@ -26,12 +26,12 @@ all_bytes s = s.args.bytes.now
 -- the parts that were cut out are the pair's
 module _ (s : Start) (row words bytes : List ℕ)
     (is_row : (w b : List ℕ) → row ≡ (among s w b).row)
-    (is-words : ((b : List ℕ) → words ≡ (among s (allWords s) b).words) × (length words ≤ length (allWords s)))
+    (is-words : ((b : List ℕ) → words ≡ (among s (all_words s) b).words) × (length words ≤ length (all_words s)))
     (is-bytes : (w : List ℕ) → bytes ≡ (among s w (all_bytes s)).bytes) where
-  same : among s (allWords s) (all_bytes s) ≡ pair_of row words bytes
+  same : among s (all_words s) (all_bytes s) ≡ pair_of row words bytes
   same =
-      pair_is s.args.rule.pair s.args.directory.now (allWords s) (all_bytes s) row words bytes
-      (is_row (allWords s) (all_bytes s)) (is-words.0 (all_bytes s)) (is-bytes (allWords s))
+      pair_is s.args.rule.pair s.args.directory.now (all_words s) (all_bytes s) row words bytes
+      (is_row (all_words s) (all_bytes s)) (is-words.0 (all_bytes s)) (is-bytes (all_words s))
 
   -- there is room for the marks of the rule's pattern
   module _ (l : List ℕ) (is-tree : l ≡ tree_of 0 s.args.rule.form (pair_of row words bytes)) where

@@ -13,24 +13,24 @@ use Rattle.readying.proofs.ReadyLaws.{pieces_are, tells_are}
 use Rattle.readying.proofs.ready_pieces.Goals.{Start}
 use Rattle.readying.proofs.ready_pieces.Goals as goal
 
-abbrev pairAtStart : Start → Pair
-pairAtStart s = pair_of s.args.row.now s.args.words.now s.args.bytes.now
+abbrev pair_at_start : Start → Pair
+pair_at_start s = pair_of s.args.row.now s.args.words.now s.args.bytes.now
 
 -- the template's tree is well-formed, and has room in a table as long as the spare one
-formed : (s : Start) → WellFormed (tree_of 1 s.args.form (pairAtStart s))
-formed s = tree-formed (pairAtStart s) 1 s.args.form (omega arith) s.requires.form_bound.0 s.requires.form_bound.1 s.requires.bytes_value.0
+formed : (s : Start) → WellFormed (tree_of 1 s.args.form (pair_at_start s))
+formed s = tree-formed (pair_at_start s) 1 s.args.form (omega arith) s.requires.form_bound.0 s.requires.form_bound.1 s.requires.bytes_value.0
 
-room : (s : Start) (l : List ℕ) (n : ℕ) → l ≡ tree_of 1 s.args.form (pairAtStart s) → n ≡ length s.args.spare.now → length l / 3 ≤ n
+room : (s : Start) (l : List ℕ) (n : ℕ) → l ≡ tree_of 1 s.args.form (pair_at_start s) → n ≡ length s.args.spare.now → length l / 3 ≤ n
 room s l n e same = let h = room_for s.args.words.now s.args.spare.now _ _ s.requires.form_bound.2.for_spare (formed s).few in
     rw e (omega arith)
 
 -- there are no more pieces than numbers in the table
-few : (s : Start) (l : List ℕ) (n m count : ℕ) → l ≡ tree_of 1 s.args.form (pairAtStart s) → n ≡ length s.args.spare.now → (m ≡ n) × (count ≤ length l / 3)
+few : (s : Start) (l : List ℕ) (n m count : ℕ) → l ≡ tree_of 1 s.args.form (pair_at_start s) → n ≡ length s.args.spare.now → (m ≡ n) × (count ≤ length l / 3)
     → count ≤ m
 few s l n m count e same t = let h = room s l n e same in omega (arith, t.0, t.1)
 
 pub resolve_side-requires : goal.resolve_side-requires
-resolve_side-requires c = let q = c.parse_pattern-parsed in record { side_bound = (omega arith, c.requires.form_bound.0, known_is (pairAtStart (goal.at.resolve_side-requires c).Start) _ _ _ c.list.ensures c.text-text.ensures q.ensures.value q.ensures.eight); passed = (c.requires.form_bound.1, c.requires.bytes_value.0); all_roomy = c.requires.form_bound.2 }
+resolve_side-requires c = let q = c.parse_pattern-parsed in record { side_bound = (omega arith, c.requires.form_bound.0, known_is (pair_at_start (goal.at.resolve_side-requires c).Start) _ _ _ c.list.ensures c.text-text.ensures q.ensures.value q.ensures.eight); passed = (c.requires.form_bound.1, c.requires.bytes_value.0); all_roomy = c.requires.form_bound.2 }
 
 pub tree-tree-requires : goal.tree-tree-requires
 tree-tree-requires c = (omega arith, c.requires.form_bound.0)
@@ -53,7 +53,7 @@ pub tell_paths-requires : goal.tell_paths-requires
 tell_paths-requires c = rw c.facts-facts.ensures c.resolve_side.ensures.indexed
 
 pub returns : goal.returns
-returns c = let a = c.args in let p = pairAtStart (goal.at.returns c).Start in
+returns c = let a = c.args in let p = pair_at_start (goal.at.returns c).Start in
     let q = c.parse_pattern-parsed in let r = c.resolve_side in let t = c.template_pieces-count in
     let el = c.tree-tree.ensures in let ef = c.facts-facts.ensures in let et = c.text-text.ensures in
     let known = known_is p _ _ _ c.list.ensures et q.ensures.value q.ensures.eight in
