@@ -48,10 +48,10 @@ def snake(word):
 
 
 def blocks_of(text):
-    """Returns the declarations of a file, also those below a `module _ .. where`."""
+    """Returns the declarations of a file, also those below a `module _ .. where` or `mutual`."""
     out = []
     for block in re.split(r"\n(?=\S)", text):
-        if re.match(r"(?:pub )?module\b", block):
+        if re.match(r"(?:(?:pub )?module|(?:unfoldable |abbrev )?mutual)\b", block):
             out += blocks_of(re.sub(r"(?m)^  ", "", block.partition("\n")[2]))
         else:
             out.append(block)
@@ -65,6 +65,10 @@ def declared(root):
         text = re.sub(r"(?m)^ *--.*$", "", read(path))
         local = path.endswith("Proof.antt")
         for block in blocks_of(text):
+            record = re.match(r"(?:pub )?record (?:pub )?\S+.*?\bwhere *\n", block, re.S)
+            if record:
+                for f in FIELD.finditer(block, record.end()):
+                    out.setdefault(f[1], "field")
             m = DECLARED.match(block)
             if not m or m[3] in ("use", "mod", "infix", "infixl", "infixr", "unfolding", "ruleset"):
                 continue
@@ -90,6 +94,8 @@ def declared(root):
 def respelled(name, kind, kinds):
     if name in GIVEN:
         return GIVEN[name]
+    if re.fullmatch(r"◌[A-Za-z]+◌", name):
+        return snake(name)
     if not re.fullmatch(r"[A-Za-z0-9_'′-]+", name):
         return name
     name = name.replace("′", "'")
@@ -153,6 +159,8 @@ def main(argv):
             # A name may be a field's and a definition's.
             if re.fullmatch(r"[a-z]+[A-Z]\w*", name):
                 fields[name] = new
+            if name.startswith("◌"):
+                table[name.strip("◌")] = new.strip("◌")
     # A lemma that would have a definition's name is marked.
     taken = {table.get(it, it) for it, kind in kinds.items() if kind not in ("lemma", "field")}
     for old, kind in kinds.items():
