@@ -151,16 +151,18 @@ def main(argv):
     check = "--check" in argv
     root = [a for a in argv if a != "--check"][0]
     kinds = declared(root)
-    table, fields = {}, {}
+    table, fields, operators = {}, {}, {}
     for name, kind in kinds.items():
         new = respelled(name, kind, kinds)
+        while respelled(new, kind, kinds) != new:
+            new = respelled(new, kind, kinds)
         if new != name:
             (fields if kind == "field" else table)[name] = new
             # A name may be a field's and a definition's.
             if re.fullmatch(r"[a-z]+[A-Z]\w*", name):
                 fields[name] = new
             if name.startswith("◌"):
-                table[name.strip("◌")] = new.strip("◌")
+                operators[name.strip("◌")] = new.strip("◌")
     # A lemma that would have a definition's name is marked.
     taken = {table.get(it, it) for it, kind in kinds.items() if kind not in ("lemma", "field")}
     for old, kind in kinds.items():
@@ -169,7 +171,9 @@ def main(argv):
     back = collections.defaultdict(list)
     for old, new in table.items():
         back[new].append(old)
-    bad = [(new, olds) for new, olds in back.items() if len(olds) > 1 or (new in kinds and kinds[new] != "field" and new not in table)]
+    bad = [(new, olds) for new, olds in back.items() if len(olds) > 1 or (new in kinds and kinds[new] not in ("field", "constructor") and new not in table)]
+    # (a definition of another crate may have an operator's word)
+    table.update(operators)
     params = set()
     for path in files(root, "crates/*/src/**/*.rt"):
         text = re.sub(r"//[^\n]*", "", read(path))
