@@ -9,7 +9,7 @@ ghost use Rattle.syntax.specs.Checks.{WellFormed};
 ghost use Rattle.candidates.specs.Candidates.{candidate_at, candidates_of, candidate_count, is_named, any_bad, key_of, keys_of, has_equal_neighbours};
 
 use syntax::accessors;
-use words::fields;
+use words::{fields, slices};
 
 // How many candidates there are.
 pub fn count_candidates(candidates: &[u32]) -> usize
@@ -48,7 +48,7 @@ pub fn are_named(words: &[u32], candidates: &[u32], rules: usize) -> bool
     let mut c = candidates;
     while 0 < c.len() {
         if is_named(words, c, rules) {
-            let d = fields::tail(c, 2);
+            let d = slices::tail(c, 2);
             c = d;
         } else {
             return false;
@@ -73,7 +73,7 @@ fn fill(candidates: &[u32], keys: &mut [u64])
     let mut i = 0;
     while i < keys.len() {
         keys[i] = key_of(c);
-        let d = fields::tail(c, 2);
+        let d = slices::tail(c, 2);
         c = d;
         i += 1;
     }

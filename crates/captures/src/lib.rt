@@ -9,7 +9,7 @@ ghost use Rattle.captures.specs.Attempts.{Event, Bound, Noted, notes};
 ghost use Rattle.captures.specs.Effects.{binding, nothing, moved_to, place_behind, recorded_one, recorded, laid_one, no_match, stopped};
 
 use syntax::accessors;
-use words::{buffer, fields, texts};
+use words::{buffer, fields, slices};
 
 // A placeholder's binding: its bytes in the file, and for a receiver how often it is dereferenced and how the function takes it (0 owned,
 // 1 `&`, 2 `&mut`).
@@ -141,7 +141,7 @@ pub fn note(s: State, c: &[u32], file: &[u8], out: &mut [u8]) -> State
     ensures by_index_2 { (i : ℕ) → out.new ≡ laid_one (Noted (text_of file.now (elems i c.now))) s out.old }
 {
     let range = accessors::range_of(c);
-    let text = texts::part_of(file, range.start, range.end);
+    let text = slices::part_of(file, range.start, range.end);
     let past = out.len() + 1;
     let at = place_behind(past, s.noted, text.len());
     if s.lays {

@@ -3,8 +3,7 @@
 use mathlib.Core.Path.{◌≡◌, sym, ◌∙◌}
 use mathlib.Core.Bool.{true, false}
 use mathlib.Core.List.{[], ◌∷◌}
-use Rattle.errors.specs.declared.Outcome.{Outcome}
-use Rattle.errors.specs.declared.Outcome.TheVariants.{Accepted, Refused}
+use Rattle.errors.specs.Refusals.{Outcome, ok, err}
 use Rattle.errors.specs.declared.Refusal.{Refusal}
 use Rattle.errors.specs.declared.Refusal.TheVariants.{MalformedList}
 use Rattle.errors.specs.Refusals.{lowest_of, first_of, in_turn}
@@ -16,21 +15,21 @@ use Rattle.rules.specs.declared.stages.Stage.TheVariants.{Lists, TreesWithFacts,
 use Rattle.checks.specs.Given.{File, Rules, stage, trees_stage, given_outcome}
 
 module _ (q : Rules) (f : File) where
-  pub no_directory : is_directory q.directory q.words q.bytes ≡ false → given_outcome q f ≡ Refused MalformedList
+  pub no_directory : is_directory q.directory q.words q.bytes ≡ false → given_outcome q f ≡ err MalformedList
   unfolding first_of in_turn
   no_directory h = rw h
 
-  passes_directory : is_directory q.directory q.words q.bytes ≡ true → directory_outcome q.directory q.words q.bytes ≡ Accepted
+  passes_directory : is_directory q.directory q.words q.bytes ≡ true → directory_outcome q.directory q.words q.bytes ≡ ok
   unfolding first_of
   passes_directory h = rw h
 
-  pub lists_refuse : (r : Refusal) → is_directory q.directory q.words q.bytes ≡ true → stage Lists q ≡ Refused r → given_outcome q f ≡ Refused r
+  pub lists_refuse : (r : Refusal) → is_directory q.directory q.words q.bytes ≡ true → stage Lists q ≡ err r → given_outcome q f ≡ err r
   lists_refuse r h l = turn_passes _ _ (passes_directory h) ∙ turn_refuses _ _ r l
 
-  pub trees_decide : is_directory q.directory q.words q.bytes ≡ true → stage Lists q ≡ Accepted → given_outcome q f ≡ in_turn (trees_stage q f ∷ stage Forms q ∷ [])
+  pub trees_decide : is_directory q.directory q.words q.bytes ≡ true → stage Lists q ≡ ok → given_outcome q f ≡ in_turn (trees_stage q f ∷ stage Forms q ∷ [])
   trees_decide h l = turn_passes _ _ (passes_directory h) ∙ turn_passes _ _ l
 
-  pub trees_accepted : given_outcome q f ≡ Accepted → stage TreesWithFacts q ≡ Accepted
+  pub trees_accepted : given_outcome q f ≡ ok → stage TreesWithFacts q ≡ ok
   trees_accepted h = (both_pass _ _ (turn_both _ _ (turn_both _ _ (turn_both _ _ h).1).1).0).0
 
   -- the lowest of the rules' trees and of the file's, and then the forms
@@ -38,8 +37,8 @@ module _ (q : Rules) (f : File) where
     lowest-both : lowest_of a b ≡ trees_stage q f
     lowest-both = rw (of-rules, of-file)
 
-    pub trees_refuse : (r : Refusal) → lowest_of a b ≡ Refused r → in_turn (trees_stage q f ∷ stage Forms q ∷ []) ≡ Refused r
+    pub trees_refuse : (r : Refusal) → lowest_of a b ≡ err r → in_turn (trees_stage q f ∷ stage Forms q ∷ []) ≡ err r
     trees_refuse r h = turn_refuses _ _ r (sym lowest-both ∙ h)
 
-    pub forms_decide : lowest_of a b ≡ Accepted → in_turn (trees_stage q f ∷ stage Forms q ∷ []) ≡ stage Forms q
+    pub forms_decide : lowest_of a b ≡ ok → in_turn (trees_stage q f ∷ stage Forms q ∷ []) ≡ stage Forms q
     forms_decide h = turn_passes _ _ (sym lowest-both ∙ h) ∙ turn_last _

@@ -3,7 +3,7 @@
 -- of their numbers is given."
 -- Assumes nothing.
 use Rattle.std.specs.Prelude.{ℕ, Bool, true, false, not, ◌&&◌, List, [], ◌∷◌, ltb}
-use Rattle.errors.specs.declared.Outcome.{Outcome}
+use Rattle.errors.specs.Refusals.{Outcome}
 use Rattle.errors.specs.Refusals.{lowest_of, in_turn}
 use Rattle.syntax.specs.Trees.{tree}
 use Rattle.syntax.specs.Accessors.{element_at, node_in}

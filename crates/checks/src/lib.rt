@@ -2,14 +2,14 @@
 #![tactic(auto)]
 
 ghost use Rattle.std.specs.Prelude.{◌≡◌, [], ◌∷◌, ◌/◌, ◌≤◌, length};
-ghost use Rattle.errors.specs.declared.Outcome.TheVariants.{Accepted};
+ghost use Rattle.errors.specs.Refusals.{ok};
 ghost use Rattle.errors.specs.Refusals.{in_turn};
 ghost use Rattle.syntax.specs.Checks.{WellFormed};
 ghost use Rattle.facts.specs.Keys.{Indexed};
 ghost use Rattle.rules.specs.declared.stages.Stage.TheVariants.{Forms};
 ghost use Rattle.checks.specs.Given.{file_of, rules_of, stage, trees_stage, given_outcome, is_reversed};
 
-use errors::{Outcome, Refusal};
+use errors::Refusal;
 use fragments::directory::is_directory;
 use rules::stages;
 use rules::stages::Stage;
@@ -40,18 +40,16 @@ fn check_trees(
     facts: &[u32],
     index: &mut [u64],
     spare: &mut [u64],
-) -> Outcome
+) -> Result<(), Refusal>
     requires { length facts.now / 4 ≤ 16383 → (length facts.now / 4 ≤ length index.old) × (length facts.now / 4 ≤ length spare.old) }
     ensures value { result ≡ in_turn (trees_stage (rules_of directory.now words.now bytes.now fact_bytes) (file_of tree.now text.now facts.now) ∷ stage Forms (rules_of directory.now words.now bytes.now fact_bytes) ∷ []) }
-    ensures well_formed { result ≡ Accepted → WellFormed tree.now × Indexed facts.now index.new }
+    ensures well_formed { result ≡ ok → WellFormed tree.now × Indexed facts.now index.new }
 {
     let of_rules = stages::check_stage(Stage::TreesWithFacts, directory, words, bytes, fact_bytes);
     let of_file = trees::check_and_index_file(tree, text, facts, index, spare);
     match errors::lowest(of_rules, of_file) {
-        Outcome::Accepted => {
-            stages::check_stage(Stage::Forms, directory, words, bytes, fact_bytes)
-        }
-        Outcome::Refused(r) => Outcome::Refused(r),
+        Ok(()) => { stages::check_stage(Stage::Forms, directory, words, bytes, fact_bytes) }
+        Err(r) => Err(r),
     }
 }
 
@@ -66,21 +64,21 @@ pub fn check_given(
     facts: &[u32],
     index: &mut [u64],
     spare: &mut [u64],
-) -> Outcome
+) -> Result<(), Refusal>
     requires { length facts.now / 4 ≤ 16383 → (length facts.now / 4 ≤ length index.old) × (length facts.now / 4 ≤ length spare.old) }
     ensures value { result ≡ given_outcome (rules_of directory.now words.now bytes.now fact_bytes) (file_of tree.now text.now facts.now) }
-    ensures well_formed { result ≡ Accepted → WellFormed tree.now × Indexed facts.now index.new }
+    ensures well_formed { result ≡ ok → WellFormed tree.now × Indexed facts.now index.new }
 {
     if is_directory(directory, words, bytes) {
         match stages::check_stage(Stage::Lists, directory, words, bytes, fact_bytes) {
-            Outcome::Accepted => {
+            Ok(()) => {
                 check_trees(
                     directory, words, bytes, fact_bytes, tree, text, facts, index, spare,
                 )
             }
-            Outcome::Refused(r) => Outcome::Refused(r),
+            Err(r) => Err(r),
         }
     } else {
-        Outcome::Refused(Refusal::MalformedList)
+        Err(Refusal::MalformedList)
     }
 }

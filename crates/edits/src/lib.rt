@@ -7,7 +7,6 @@ ghost use Rattle.edits.specs.Edits.{edit_words};
 ghost use Rattle.edits.specs.Answers.{edited_numbers};
 
 use errors::Refusal;
-use words::buffer::Placed;
 use words::{buffer, fields};
 
 // What came of a job: Asked has the kind and the length of the text, an edit list its length.
@@ -34,7 +33,7 @@ pub fn numbers_of(e: Edited) -> EditedNumbers
 {
     match e {
         Edited::Refused(r) => EditedNumbers {
-            refusal: errors::number_of(r),
+            refusal: u32::from(r),
             asked: 0,
             kind: 0,
             length: 0,
@@ -55,15 +54,15 @@ pub fn numbers_of(e: Edited) -> EditedNumbers
 }
 
 // Lays the three words of an edit whose text has n bytes; where they do not fit, nothing changes.
-pub fn put_edit(out: &mut [u8], at: usize, start: u32, end: u32, n: u32) -> Placed
+pub fn put_edit(out: &mut [u8], at: usize, start: u32, end: u32, n: u32) -> Option<usize>
     ensures value { result ≡ place_after (length out.old) at 12 }
     ensures out_after { out.new ≡ laid_if_room out.old at (edit_words start end n) }
 {
     if out.len() < 12 {
-        return Placed::Full;
+        return None;
     }
     if out.len() - 12 < at {
-        return Placed::Full;
+        return None;
     }
     buffer::put_word(out, at, fields::edit_start(start));
     buffer::put_word(out, at + 4, fields::edit_end(end));

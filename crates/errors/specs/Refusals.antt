@@ -1,9 +1,7 @@
 -- Document 01, "Refusals by operation": the number of each refusal. Every answer and every promise takes its number from here.
 -- Assumes nothing.
-use Rattle.std.specs.Prelude.{ℕ, Bool, cond, List, [], ◌∷◌, leb}
+use Rattle.std.specs.Prelude.{ℕ, Bool, cond, List, [], ◌∷◌, leb, Result, Ok, Err}
 use Rattle.errors.specs.declared.Refusal.{Refusal}
-use Rattle.errors.specs.declared.Outcome.{Outcome}
-use Rattle.errors.specs.declared.Outcome.TheVariants.{Accepted, Refused}
 use Rattle.errors.specs.declared.Refusal.TheVariants.{MalformedList, EndsAfterBrace, EndsBeforeClosingBrace, UnexpectedToken, NeitherNameNorBrace, NoName, EndsBeforeConstraint, UnsupportedConstraint, MissingParenthesis, NoKindIdent, UnknownKind, RepeatedName, NinthPlaceholder, TemplateConstraint, UndefinedPlaceholder, DoesNotFit, NoForm, TreeTooLarge, MalformedTree, TreeTooDeep, MalformedFacts, UnresolvedPath, NoSuchNodeOrRule, TooManyRulesOrCandidates, NoSuchCandidate, RepeatedCandidate, NoTemplate, MalformedParses, UnboundPlaceholder, NoRoom}
 
 abbrev pub number_of : Refusal → ℕ
@@ -46,19 +44,29 @@ number_of MalformedParses = 28  -- parses malformed or kind and text repeated
 number_of UnboundPlaceholder = 29  -- a template placeholder unbound
 number_of NoRoom = 30  -- the next byte does not fit
 
+-- what a check, or an operation that gives nothing else, answers
+abbrev pub Outcome : Type 0
+Outcome = Result (Unit {0}) Refusal
+
+abbrev pub ok : Outcome
+ok = Ok tt
+
+abbrev pub err : Refusal → Outcome
+err r = Err r
+
 -- an outcome's number, 0 where nothing is refused
 abbrev pub outcome_number : Outcome → ℕ
-outcome_number Accepted = 0
-outcome_number (Refused r) = number_of r
+outcome_number (Ok tt) = 0
+outcome_number (Err r) = number_of r
 
 -- "Where several lists, rules or trees refuse, the lowest of their numbers is given."
 abbrev pub lowest_of : Outcome → Outcome → Outcome
-lowest_of Accepted b = b
-lowest_of (Refused r) Accepted = Refused r
-lowest_of (Refused r) (Refused s) = cond (leb (number_of r) (number_of s)) (Refused r) (Refused s)
+lowest_of (Ok tt) b = b
+lowest_of (Err r) (Ok tt) = err r
+lowest_of (Err r) (Err s) = cond (leb (number_of r) (number_of s)) (err r) (err s)
 
 unfoldable pub lowest : List Outcome → Outcome
-lowest [] = Accepted
+lowest [] = ok
 lowest (a ∷ rest) = lowest_of a (lowest rest)
 
 -- checks in the order in which they are looked at: the first whose condition holds refuses
@@ -67,11 +75,11 @@ pub record Check : Type 0 where
   pub refusal : Refusal
 
 unfoldable pub first_of : List Check → Outcome
-first_of [] = Accepted
-first_of (c ∷ cs) = cond c.fails (Refused c.refusal) (first_of cs)
+first_of [] = ok
+first_of (c ∷ cs) = cond c.fails (err c.refusal) (first_of cs)
 
 -- stages in turn: the first that refuses
 unfoldable pub in_turn : List Outcome → Outcome
-in_turn [] = Accepted
-in_turn (Accepted ∷ rest) = in_turn rest
-in_turn (Refused r ∷ rest) = Refused r
+in_turn [] = ok
+in_turn (Ok tt ∷ rest) = in_turn rest
+in_turn (Err r ∷ rest) = err r

@@ -5,7 +5,7 @@ use mathlib.Core.Path.{◌≡◌, refl, ap, ap₂, ◌∙◌, fun_ext}
 use mathlib.Core.Bool.{Bool, true}
 use mathlib.Core.List.{List, [], map}
 use lib.ListN.{length}
-use Rattle.errors.specs.declared.Outcome.TheVariants.{Accepted}
+use Rattle.errors.specs.Refusals.{ok}
 use Rattle.words.specs.Buffer.{used_of, filled}
 use Rattle.syntax.specs.Trees.{Elems}
 use Rattle.syntax.specs.Accessors.{element_at, by_itself}
@@ -183,6 +183,6 @@ module _ (j : Job) where
       ∙ by_trace file_tree (setting_over left) (nest file_tree (matches_over left) none) room
 
   -- a job that nothing refuses, by the rules left
-  pub done_by : (rs : List Rule) (out : List ℕ) → job_outcome j ≡ Accepted → rules (pairs_in j) ≡ rs
+  pub done_by : (rs : List Rule) (out : List ℕ) → job_outcome j ≡ ok → rules (pairs_in j) ≡ rs
       → answered (AJob j out) ≡ answer_in out (trace_of rs)
   done_by rs out accepted are = rw (accepted, list_is (used_of (length out)), are)

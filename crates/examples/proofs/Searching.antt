@@ -3,7 +3,7 @@
 use Prim.Native.Nat.{ℕ}
 use mathlib.Core.Path.{◌≡◌, ap₂}
 use lib.ListN.{replicate}
-use Rattle.errors.specs.declared.Outcome.TheVariants.{Accepted}
+use Rattle.errors.specs.Refusals.{ok}
 use Rattle.words.specs.Buffer.{filled}
 use Rattle.syntax.specs.Trees.{Elems}
 use Rattle.syntax.specs.Accessors.{element_at, by_itself}
@@ -43,6 +43,6 @@ attempted s = match_over (pair_in s) only_rule s.file anywhere 1 (decoded_tree (
 match_is : (s : Search) → rule_match (pair_in s) only_rule s.file anywhere 1 ≡ attempted s
 match_is s = ap₂ (match_over (pair_in s) only_rule s.file anywhere 1) (tree_is (tree_of 0 0 (pair_in s))) (tree_is s.file.words)
 
-pub searched_by : (s : Search) → match_outcome (rules_in s) s.file 0 anywhere 1 ≡ Accepted → found_rule (rules_in s) 0 ≡ At only_rule
+pub searched_by : (s : Search) → match_outcome (rules_in s) s.file 0 anywhere 1 ≡ ok → found_rule (rules_in s) 0 ≡ At only_rule
     → answered (searched s) ≡ NodeMatched (answer_of 8 (attempted s)) (filled (replicate 8 0) (bytes_of 8 (attempted s)))
 searched_by s accepted found = rw (accepted, found, match_is s)

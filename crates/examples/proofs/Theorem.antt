@@ -54,7 +54,7 @@ pub data AllHold : List Example → Type 0 where
   ◌and◌ : {e : Example} {es : List Example} → answered e.question ≡ e.answer → AllHold es → AllHold (e ∷ es)
 
 pub starred : AllHold examples
-unfolding lowest first_of in_turn same_text part tokens_from is_token_list all_token_words total_length reading run has_name vars has_constraint defines_all
+unfolding lowest first_of in_turn part tokens_from is_token_list all_token_words total_length reading run has_name vars has_constraint defines_all
     raw_code trim_start trim_end stand_in_index size depth words tiles formed is_tree_of has_element find_node first_token only_ident or_else element_at ancestors
     facts_of are_fact_words are_facts fact_index has_repeated has_gap is_fact_list before are_rows total is_directory pairs_of pair_at any kept rules_from rule_at
     pair_fails contains_type_arguments contains_placeholder step is_unresolved resolved_paths claims last_note skip_tokens and_then comments recorded

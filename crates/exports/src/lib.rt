@@ -89,7 +89,7 @@ pub fn code_written(written: Written) -> RawCode
             length: n,
         },
         Written::Refused(r) => RawCode {
-            refusal: errors::number_of(r),
+            refusal: u32::from(r),
             length: 0,
         },
     }

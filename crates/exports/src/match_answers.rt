@@ -82,7 +82,7 @@ fn case_numbers(case: Case) -> CaseNumbers
 {
     match case {
         Case::Refused(r) => CaseNumbers {
-            refusal: errors::number_of(r),
+            refusal: u32::from(r),
             matched: 0,
             length: 0,
         },

@@ -66,7 +66,7 @@ pub fn rules_built(built: Built) -> BuiltRules
 {
     match built {
         Built::Refused(r) => BuiltRules {
-            refusal: errors::number_of(r),
+            refusal: u32::from(r),
             rules: 0,
             found: 0,
             pair: 0,
@@ -180,7 +180,7 @@ pub fn element_resolved(resolved: Resolved) -> ResolvedElement
     ensures { result ≡ element_resolved resolved }
 {
     match resolved {
-        Resolved::Refused(r) => no_element(errors::number_of(r)),
+        Resolved::Refused(r) => no_element(u32::from(r)),
         Resolved::NoSuchElement => no_element(0),
         Resolved::At(found) => {
             let path = found.path;

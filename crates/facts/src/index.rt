@@ -5,7 +5,7 @@ ghost use Rattle.words.specs.Fields.{value_at, fact_element};
 ghost use Rattle.facts.specs.Facts.{fact_at, facts_of, fact_index, selector};
 ghost use Rattle.facts.specs.Keys.{key_number, key_of, AreLow, entries_from, is_later_key, is_steady, index_of, found_in, Indexed};
 
-use words::fields;
+use words::{fields, slices};
 
 // An element, a sort, and a step or module as one number.
 fn key_number(sort: u32, element: usize, select: u32) -> u64
@@ -45,7 +45,7 @@ fn fill(facts: &[u32], index: &mut [u64])
 {
     let mut i = 0;
     while i < index.len() {
-        let c = fields::tail(facts, 4 * i);
+        let c = slices::tail(facts, 4 * i);
         index[i] = key_of(c) * 16384 + (i as u64);
         i += 1;
     }
@@ -118,7 +118,7 @@ pub fn value(facts: &[u32], place: usize, k: usize) -> u32
     ensures { result ≡ value_at (drop (4 * place) facts.now) k }
 {
     if place < facts.len() {
-        return fields::value(fields::tail(facts, 4 * place), k);
+        return fields::value(slices::tail(facts, 4 * place), k);
     }
     0
 }

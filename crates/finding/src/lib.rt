@@ -2,7 +2,7 @@
 #![tactic(auto)]
 
 ghost use Rattle.std.specs.Prelude.{◌≡◌, false, List, map, ◌++◌, ◌*◌, ◌/◌, ◌≤◌, ◌<◌, length};
-ghost use Rattle.errors.specs.declared.Outcome.TheVariants.{Accepted};
+ghost use Rattle.errors.specs.Refusals.{ok};
 ghost use Rattle.fragments.specs.Pairs.{pairs, pair_of, pair_at};
 ghost use Rattle.rules.specs.declared.stages.Stage.TheVariants.{TreesWithFacts};
 ghost use Rattle.rules.specs.Forms.{any};
@@ -172,7 +172,7 @@ fn find_number(
     marks: &mut [u32],
     candidates: &mut [u32],
 ) -> usize
-    requires bytes_value { (stage_outcome TreesWithFacts fact_bytes (pairs directory.now words.now bytes.now) ≡ Accepted) × (any (map pair_fails (pairs directory.now words.now bytes.now)) ≡ false) }
+    requires bytes_value { (stage_outcome TreesWithFacts fact_bytes (pairs directory.now words.now bytes.now) ≡ ok) × (any (map pair_fails (pairs directory.now words.now bytes.now)) ≡ false) }
     requires all_roomy { AllRoomy words.now index.old spare.old paths.old calls.old × MarksRoomy words.now marks.old × FileOf tree.now facts.now file_index.now }
     requires number_bound { (number < 16) × (number < length (rules (pairs directory.now words.now bytes.now))) × (before ≤ 1024) × (2048 ≤ length candidates.old) }
     ensures { (cs : List Candidate) → Laid cs before candidates.old → Finds (cs ++ accepted (attempt_of (rules_of directory.now words.now bytes.now fact_bytes) (file_of tree.now text.now facts.now) range) (nodes_of (root_of (file_of tree.now text.now facts.now)) number)) result candidates.new }
@@ -206,7 +206,7 @@ pub fn find_all(
     marks: &mut [u32],
     candidates: &mut [u32],
 ) -> usize
-    requires bytes_value { (stage_outcome TreesWithFacts fact_bytes (pairs directory.now words.now bytes.now) ≡ Accepted) × (any (map pair_fails (pairs directory.now words.now bytes.now)) ≡ false) }
+    requires bytes_value { (stage_outcome TreesWithFacts fact_bytes (pairs directory.now words.now bytes.now) ≡ ok) × (any (map pair_fails (pairs directory.now words.now bytes.now)) ≡ false) }
     requires all_roomy { AllRoomy words.now index.old spare.old paths.old calls.old × MarksRoomy words.now marks.old × FileOf tree.now facts.now file_index.now }
     requires count_bound { (count ≤ 16) × (count ≤ length (rules (pairs directory.now words.now bytes.now))) × (2048 ≤ length candidates.old) }
     ensures { Finds (accepted (attempt_of (rules_of directory.now words.now bytes.now fact_bytes) (file_of tree.now text.now facts.now) range) (walk_candidates (root_of (file_of tree.now text.now facts.now)) count)) result candidates.new }

@@ -12,7 +12,7 @@ ghost use Rattle.matching.specs.Matching.{match_node};
 use matcher::marks;
 use std::num::{wrapping_add_u32, wrapping_sub_u32};
 use syntax::accessors;
-use words::fields;
+use words::slices;
 
 // Kinds from one number to another.
 #[derive(Clone, Copy)]
@@ -74,7 +74,7 @@ pub fn find(words: &[u32], from: usize, kinds: Kinds) -> usize
     ensures lower_bound { (from ≤ result) × (result ≤ length words.now / 3) }
     ensures by_index { (e : ℕ) → from ≤ e → e < result → node_in kinds.low kinds.high (element_at e (tree words.now)) ≡ false }
 {
-    let mut c = fields::tail(words, from * 3);
+    let mut c = slices::tail(words, from * 3);
     let mut e = from;
     while 3 <= c.len() {
         if is_head(c[0], kinds) {

@@ -2,7 +2,7 @@
 ghost use Rattle.std.specs.Prelude.{◌≡◌, ◌≤◌, ◌*◌};
 ghost use Rattle.fragments.specs.Directory.{entry, counts, count_at, before, is_row, row_count, add_up, is_directory};
 
-use words::fields;
+use words::{fields, slices};
 
 // Entry k of a row.
 pub fn entry(row: &[u32], k: usize) -> usize
@@ -72,7 +72,7 @@ fn add_up(directory: &[u32], words: usize, bytes: usize) -> bool
             words_left -= w;
             bytes_left -= b;
             n -= 1;
-            let next = fields::tail(row, 27);
+            let next = slices::tail(row, 27);
             row = next;
         } else {
             return false;

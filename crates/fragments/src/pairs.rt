@@ -4,7 +4,7 @@ ghost use Rattle.fragments.specs.Directory.{counted};
 ghost use Rattle.fragments.specs.Pairs.{pair_at, part_of, in_words, in_bytes, list_of, text_of, code_of, is_given, tree_of, facts_of};
 
 use crate::directory;
-use words::{fields, texts};
+use words::slices;
 
 // The words that an entry counts.
 pub fn word_part<'a>(row: &[u32], words: &'a [u32], k: usize) -> &'a [u32]
@@ -12,7 +12,7 @@ pub fn word_part<'a>(row: &[u32], words: &'a [u32], k: usize) -> &'a [u32]
     ensures { result.now ≡ part_of true row.now words.now k }
 {
     let start = directory::counted_before(row, true, k);
-    fields::part_of(words, start, start + directory::entry(row, k))
+    slices::part_of(words, start, start + directory::entry(row, k))
 }
 
 // The bytes that an entry counts.
@@ -21,28 +21,28 @@ pub fn byte_part<'a>(row: &[u32], bytes: &'a [u8], k: usize) -> &'a [u8]
     ensures { result.now ≡ part_of false row.now bytes.now k }
 {
     let start = directory::counted_before(row, false, k);
-    texts::part_of(bytes, start, start + directory::entry(row, k))
+    slices::part_of(bytes, start, start + directory::entry(row, k))
 }
 
 // The rows behind a row.
 pub fn next_row(row: &[u32]) -> &[u32]
     ensures { result.now ≡ drop 27 row.now }
 {
-    fields::tail(row, 27)
+    slices::tail(row, 27)
 }
 
 // The words behind a pair's.
 pub fn next_words<'a>(row: &[u32], words: &'a [u32]) -> &'a [u32]
     ensures { result.now ≡ drop (counted true row.now) words.now }
 {
-    fields::tail(words, directory::counted_before(row, true, 27))
+    slices::tail(words, directory::counted_before(row, true, 27))
 }
 
 // The bytes behind a pair's.
 pub fn next_bytes<'a>(row: &[u32], bytes: &'a [u8]) -> &'a [u8]
     ensures { result.now ≡ drop (counted false row.now) bytes.now }
 {
-    texts::tail(bytes, directory::counted_before(row, false, 27))
+    slices::tail(bytes, directory::counted_before(row, false, 27))
 }
 
 // The row of the pair of a number.

@@ -2,7 +2,7 @@
 #![tactic(auto)]
 
 ghost use Rattle.std.specs.Prelude.{◌≡◌, true, false, map, ℕ, ◌+◌, ◌*◌, ◌%◌, ◌<◌, ◌≤◌, length, get_or};
-ghost use Rattle.errors.specs.declared.Outcome.TheVariants.{Accepted};
+ghost use Rattle.errors.specs.Refusals.{ok};
 ghost use Rattle.fragments.specs.Pairs.{pairs, pair_of, pair_at};
 ghost use Rattle.rules.specs.declared.stages.Stage.TheVariants.{TreesWithFacts};
 ghost use Rattle.rules.specs.Forms.{any};
@@ -195,7 +195,7 @@ fn gather_found(
     rows: &mut [u32],
     links: &mut [u32],
 )
-    requires bytes_value { (stage_outcome TreesWithFacts fact_bytes (pairs directory.now words.now bytes.now) ≡ Accepted) × (any (map pair_fails (pairs directory.now words.now bytes.now)) ≡ false) }
+    requires bytes_value { (stage_outcome TreesWithFacts fact_bytes (pairs directory.now words.now bytes.now) ≡ ok) × (any (map pair_fails (pairs directory.now words.now bytes.now)) ≡ false) }
     requires all_roomy { AllRoomy words.now index.old spare.old paths.old calls.old × MarksRoomy words.now marks.old × FileOf tree.now facts.now file_index.now }
     requires are_nodes { AreNodes (file_of tree.now text.now facts.now) keys.now × HaveRoom keys.now rows.old links.old × (number < 16) × (number < length (rules (pairs directory.now words.now bytes.now))) }
     ensures { Gathers number (attempt_of (rules_of directory.now words.now bytes.now fact_bytes) (file_of tree.now text.now facts.now) range) (module_of facts.now) (length keys.now) keys.now rows.old links.old rows.new links.new }
@@ -244,7 +244,7 @@ fn gather_number(
     rows: &mut [u32],
     links: &mut [u32],
 )
-    requires bytes_value { (stage_outcome TreesWithFacts fact_bytes (pairs directory.now words.now bytes.now) ≡ Accepted) × (any (map pair_fails (pairs directory.now words.now bytes.now)) ≡ false) }
+    requires bytes_value { (stage_outcome TreesWithFacts fact_bytes (pairs directory.now words.now bytes.now) ≡ ok) × (any (map pair_fails (pairs directory.now words.now bytes.now)) ≡ false) }
     requires all_roomy { AllRoomy words.now index.old spare.old paths.old calls.old × MarksRoomy words.now marks.old × FileOf tree.now facts.now file_index.now }
     requires are_nodes { AreNodes (file_of tree.now text.now facts.now) keys.now × HaveRoom keys.now rows.old links.old × (number < 16) × (number < length (rules (pairs directory.now words.now bytes.now))) }
     ensures { Gathers number (attempt_of (rules_of directory.now words.now bytes.now fact_bytes) (file_of tree.now text.now facts.now) range) (module_of facts.now) (length keys.now) keys.now rows.old links.old rows.new links.new }
@@ -278,7 +278,7 @@ pub fn gather_all(
     rows: &mut [u32],
     links: &mut [u32],
 )
-    requires bytes_value { (stage_outcome TreesWithFacts fact_bytes (pairs directory.now words.now bytes.now) ≡ Accepted) × (any (map pair_fails (pairs directory.now words.now bytes.now)) ≡ false) }
+    requires bytes_value { (stage_outcome TreesWithFacts fact_bytes (pairs directory.now words.now bytes.now) ≡ ok) × (any (map pair_fails (pairs directory.now words.now bytes.now)) ≡ false) }
     requires all_roomy { AllRoomy words.now index.old spare.old paths.old calls.old × MarksRoomy words.now marks.old × FileOf tree.now facts.now file_index.now }
     requires are_nodes { AreNodes (file_of tree.now text.now facts.now) keys.now × AreBelow count keys.now × HaveRoom keys.now rows.old links.old × (count ≤ 16) × (count ≤ length (rules (pairs directory.now words.now bytes.now))) }
     ensures { Gathered (rules_of directory.now words.now bytes.now fact_bytes) (file_of tree.now text.now facts.now) range keys.now rows.new links.new }

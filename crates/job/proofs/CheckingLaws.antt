@@ -5,8 +5,7 @@ use mathlib.Core.Bool.{true}
 use mathlib.Core.List.{List, [], ◌∷◌}
 use Prim.Native.Nat.{ℕ}
 use lib.ListN.{length, take, drop}
-use Rattle.errors.specs.declared.Outcome.{Outcome}
-use Rattle.errors.specs.declared.Outcome.TheVariants.{Accepted, Refused}
+use Rattle.errors.specs.Refusals.{Outcome, ok, err}
 use Rattle.errors.specs.declared.Refusal.{Refusal}
 use Rattle.errors.specs.Refusals.{first_of, in_turn}
 use Rattle.errors.proofs.Laws.{turn_both}
@@ -25,14 +24,14 @@ module _ (j : Job) where
   abbrev asked : List Outcome
   asked = first_of (job_checks j) ∷ parses_outcome j.parses j.parse_text ∷ []
 
-  pub checks_refuse : (r : Refusal) → in_turn (to_resolve (rules_in j) j.file) ≡ Refused r → Refused r ≡ job_outcome j
+  pub checks_refuse : (r : Refusal) → in_turn (to_resolve (rules_in j) j.file) ≡ err r → err r ≡ job_outcome j
   checks_refuse r h = sym (turns_refuse (to_resolve (rules_in j) j.file) asked r h)
 
-  module _ (h : in_turn (to_resolve (rules_in j) j.file) ≡ Accepted) where
+  module _ (h : in_turn (to_resolve (rules_in j) j.file) ≡ ok) where
     pub checks_asked : in_turn asked ≡ job_outcome j
     checks_asked = sym (turns_pass (to_resolve (rules_in j) j.file) asked h)
 
-    pub job_checked : (index keys : List ℕ) → WellFormed j.file.words × Indexed j.file.facts index → in_turn asked ≡ Accepted
+    pub job_checked : (index keys : List ℕ) → WellFormed j.file.words × Indexed j.file.facts index → in_turn asked ≡ ok
         → (is_parse_list (length j.parse_text) j.parses ≡ true)
         × (take (candidate_count j.candidates) keys ≡ sort (keys_of (candidates_in j)))
         → Checked j index keys

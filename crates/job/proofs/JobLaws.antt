@@ -4,8 +4,7 @@ use Prim.Native.Nat.{ℕ, ◌≤◌}
 use mathlib.Core.Path.{◌≡◌, sym, ap, ◌∙◌}
 use mathlib.Core.List.{List, [], ◌++◌}
 use lib.ListN.{length, take, drop}
-use Rattle.errors.specs.declared.Outcome.{Outcome}
-use Rattle.errors.specs.declared.Outcome.TheVariants.{Accepted, Refused}
+use Rattle.errors.specs.Refusals.{Outcome, ok, err}
 use Rattle.errors.specs.declared.Refusal.{Refusal}
 use Rattle.words.specs.Buffer.{used_of, filled}
 use Rattle.edits.specs.declared.Edited.TheVariants as edited
@@ -17,14 +16,14 @@ use Rattle.job_answers.specs.Answers.{list_in, answer_after, bytes_after, job_an
 module _ (j : Job) where
   -- of a buffer that is used whole
   module _ (out : List ℕ) (h : length out ≤ 1048576) where
-    pub job_refused : (r : Refusal) → job_outcome j ≡ Refused r
+    pub job_refused : (r : Refusal) → job_outcome j ≡ err r
         → (edited.Refused r ≡ job_answer j (length out)) × (filled out [] ≡ buffer_after j out)
     job_refused r e = (
       sym (ap (λ (o : Outcome). answer_after o (list_in j (length out))) e),
       sym (ap (λ (o : Outcome). filled out (bytes_after o (list_in j (used_of (length out))))) e),
     )
 
-    pub job_accepted : job_outcome j ≡ Accepted
+    pub job_accepted : job_outcome j ≡ ok
         → (answer_of (list_in j (length out)) ≡ job_answer j (length out)) × (filled out (bytes_of (list_in j (length out))) ≡ buffer_after j out)
     job_accepted e = (
       sym (ap (λ (o : Outcome). answer_after o (list_in j (length out))) e),

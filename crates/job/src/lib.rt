@@ -13,7 +13,6 @@ ghost use Rattle.job_answers.specs.Answers.{job_answer, buffer_after};
 
 use checks::Restriction;
 use edits::Edited;
-use errors::Outcome;
 use words::buffer;
 
 // All checks in turn, and then the edit list, in tables that are large enough and a buffer that is used whole.
@@ -54,11 +53,11 @@ fn job_in<'a>(
         directory, words, bytes, fact_text, tree, text, facts, parses, parse_text, candidates,
         range, index, spare, paths, calls, file_index, keys, more,
     ) {
-        Outcome::Accepted => job_list::write_checked(
+        Ok(()) => job_list::write_checked(
             directory, words, bytes, fact_text, tree, text, facts, parses, parse_text, candidates,
             range, file_index, keys, index, spare, paths, calls, marks, out,
         ),
-        Outcome::Refused(r) => edits::refuse(r, out),
+        Err(r) => edits::refuse(r, out),
     }
 }
 

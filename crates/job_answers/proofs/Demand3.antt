@@ -6,8 +6,8 @@ use mathlib.Core.List.{List}
 use Prim.Native.Nat.{ℕ, ◌≤◌}
 use native.Mathlib.Omega.{arith}
 use lib.ListN.{length}
-use Rattle.errors.specs.declared.Outcome.{Outcome}
-use Rattle.errors.specs.declared.Outcome.TheVariants.{Accepted, Refused}
+use Rattle.std.proofs.Common.{Ok, Err}
+use Rattle.errors.specs.Refusals.{Outcome, ok}
 use Rattle.words.specs.Buffer.{used_of}
 use Rattle.words.proofs.BufferLaws.{used_small}
 use Rattle.candidates.specs.Candidates.{has}
@@ -29,11 +29,11 @@ use Rattle.job_answers.proofs.Files.{file-keeps}
 use Rattle.job_answers.proofs.Lists.{items-follow, list_fits}
 
 module _ (j : Job) where
-  kept_so : job_outcome j ≡ Accepted → Collections (tree_in j) (rule_count j) (attempt_in j) (has (candidates_in j))
+  kept_so : job_outcome j ≡ ok → Collections (tree_in j) (rule_count j) (attempt_in j) (has (candidates_in j))
   kept_so h = collections (tree_in j) (rule_count j) (attempt_in j) (has (candidates_in j)) (file-keeps j h).1
 
   -- the edits of an accepted job
-  listed_so : (room n : ℕ) → room ≤ 1048576 → (es : List Edit) → job_outcome j ≡ Accepted → edits_in j room ≡ fine es → length (encode es) ≡ n
+  listed_so : (room n : ℕ) → room ≤ 1048576 → (es : List Edit) → job_outcome j ≡ ok → edits_in j room ≡ fine es → length (encode es) ≡ n
       → EditList j room n
   listed_so room n small es p q size =
       let f = file-keeps j p in
@@ -59,11 +59,11 @@ module _ (j : Job) where
     where
       by : (o : Outcome) → job_outcome j ≡ o → (w : Out (List Edit)) → edits_in j room ≡ w
           → answer_after o (after w λ es. fine (encode es)) ≡ Edits n → EditList j room n
-      by (Refused r) p w q e = absurd (let z : ◌≡◌ {A = ℕ} 0 1 = cc in omega arith)
-      by Accepted p (event Unbound) q e = absurd (let z : ◌≡◌ {A = ℕ} 0 1 = cc in omega arith)
-      by Accepted p (event NoRoom) q e = absurd (let z : ◌≡◌ {A = ℕ} 0 1 = cc in omega arith)
-      by Accepted p (event (Asked kind text)) q e = absurd (let z : ◌≡◌ {A = ℕ} 0 1 = cc in omega arith)
-      by Accepted p (fine es) q e = listed_so room n small es p q (cc)
+      by (Err r) p w q e = absurd (let z : ◌≡◌ {A = ℕ} 0 1 = cc in omega arith)
+      by (Ok tt) p (event Unbound) q e = absurd (let z : ◌≡◌ {A = ℕ} 0 1 = cc in omega arith)
+      by (Ok tt) p (event NoRoom) q e = absurd (let z : ◌≡◌ {A = ℕ} 0 1 = cc in omega arith)
+      by (Ok tt) p (event (Asked kind text)) q e = absurd (let z : ◌≡◌ {A = ℕ} 0 1 = cc in omega arith)
+      by (Ok tt) p (fine es) q e = listed_so room n small es p q (cc)
 
 -- THE THEOREM
 pub demand3 : (j : Job) → Demand3 j

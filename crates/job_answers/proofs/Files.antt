@@ -5,7 +5,7 @@ use mathlib.Core.Bool.{true}
 use mathlib.Core.List.{List}
 use Prim.Native.Nat.{ℕ, ◌≤◌}
 use lib.ListN.{length}
-use Rattle.errors.specs.declared.Outcome.TheVariants.{Accepted}
+use Rattle.errors.specs.Refusals.{ok}
 use Rattle.errors.proofs.Laws.{turn_both, both_pass}
 use Rattle.syntax.specs.Trees.{tree}
 use Rattle.syntax.specs.Checks.{tree_outcome}
@@ -18,14 +18,14 @@ use Rattle.checks.specs.Given.{stage}
 use Rattle.nester.proofs.Lines.{Laws, laws}
 use Rattle.job_checks.specs.Checks.{Job, rules_in, tree_in, job_outcome}
 
-tree-keeps : (n : ℕ) (l : List ℕ) → tree_outcome true n l ≡ Accepted → (n ≤ 65535) × Laws (tree l) n
+tree-keeps : (n : ℕ) (l : List ℕ) → tree_outcome true n l ≡ ok → (n ≤ 65535) × Laws (tree l) n
 tree-keeps n l h =
     let p = passed true n l h in
     let q = not_large n l p.large in
     let b = tree_built n l q.1 q.0 p.is in
     (q.1, laws (tree l) n b.numbered b.inside b.good)
 
-pub file-keeps : (j : Job) → job_outcome j ≡ Accepted → (length j.file.text ≤ 65535) × Laws (tree_in j) (length j.file.text)
+pub file-keeps : (j : Job) → job_outcome j ≡ ok → (length j.file.text ≤ 65535) × Laws (tree_in j) (length j.file.text)
 file-keeps j h =
     let f = j.file in
     let trees = (turn_both _ _ (turn_both _ _ (turn_both _ _ (turn_both _ _ h).0).1).1).0 in

@@ -4,8 +4,8 @@
 -- 0".
 -- Assumes nothing.
 use Rattle.std.specs.Prelude.{ℕ, List, [], length}
-use Rattle.errors.specs.declared.Outcome.{Outcome}
-use Rattle.errors.specs.declared.Outcome.TheVariants.{Accepted, Refused}
+use Rattle.std.specs.Prelude.{Ok, Err}
+use Rattle.errors.specs.Refusals.{Outcome}
 use Rattle.words.specs.Buffer.{used_of, filled}
 use Rattle.nester.specs.Places.{Item, items}
 use Rattle.rendering.specs.Events.{Out, fine, after, Text}
@@ -30,12 +30,12 @@ list_in j room = after (edits_in j room) λ es. fine (encode es)
 
 -- a check that refuses comes before all that
 abbrev pub answer_after : Outcome → Out (List ℕ) → Edited
-answer_after (Refused r) list = edited.Refused r
-answer_after Accepted list = answer_of list
+answer_after (Err r) list = edited.Refused r
+answer_after (Ok tt) list = answer_of list
 
 abbrev pub bytes_after : Outcome → Out (List ℕ) → List ℕ
-bytes_after (Refused r) list = []
-bytes_after Accepted list = bytes_of list
+bytes_after (Err r) list = []
+bytes_after (Ok tt) list = bytes_of list
 
 -- THE ANSWER in so much room, the bytes that it leaves there, and the whole buffer
 abbrev pub job_answer : Job → ℕ → Edited

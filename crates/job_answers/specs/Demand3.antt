@@ -1,7 +1,7 @@
 -- Demand 3, of a job, as one statement. Its sentences stand above the fields that say them.
 -- Assumes nothing.
 use Rattle.std.specs.Prelude.{◌≡◌, ℕ, List, length}
-use Rattle.errors.specs.declared.Outcome.TheVariants.{Accepted}
+use Rattle.errors.specs.Refusals.{ok}
 use Rattle.words.specs.Buffer.{used_of}
 use Rattle.candidates.specs.Candidates.{has, Perm}
 use Rattle.nester.specs.Places.{listed}
@@ -54,4 +54,4 @@ pub record Demand3 (j : Job) : Type 0 where
   -- another or is its ancestor. A match is dropped exactly when it meets a kept match, on its node or an ancestor, that has no captured range
   -- holding it."
   pub matched : collection_in j ≡ collection (tree_in j) (rule_count j) (attempt_in j) (has (candidates_in j))
-  pub collections : job_outcome j ≡ Accepted → Collections (tree_in j) (rule_count j) (attempt_in j) (has (candidates_in j))
+  pub collections : job_outcome j ≡ ok → Collections (tree_in j) (rule_count j) (attempt_in j) (has (candidates_in j))

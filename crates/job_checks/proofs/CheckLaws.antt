@@ -3,15 +3,15 @@
 use mathlib.Core.Path.{◌≡◌, refl}
 use mathlib.Core.Bool.{Bool, true, false}
 use mathlib.Core.List.{List, ◌∷◌}
-use Rattle.errors.specs.declared.Outcome.TheVariants.{Accepted}
+use Rattle.errors.specs.Refusals.{ok}
 use Rattle.errors.specs.Refusals.{Check, first_of}
 use Rattle.errors.proofs.Laws.{refused_not}
 
 -- where checks pass, the first does and the others do
-pub first-both : (c : Check) (cs : List Check) → first_of (c ∷ cs) ≡ Accepted → (c.fails ≡ false) × (first_of cs ≡ Accepted)
+pub first-both : (c : Check) (cs : List Check) → first_of (c ∷ cs) ≡ ok → (c.fails ≡ false) × (first_of cs ≡ ok)
 unfolding first_of
 first-both c cs h = by c.fails refl
   where
-    by : (b : Bool) → c.fails ≡ b → (c.fails ≡ false) × (first_of cs ≡ Accepted)
+    by : (b : Bool) → c.fails ≡ b → (c.fails ≡ false) × (first_of cs ≡ ok)
     by true e = absurd (refused_not {r = c.refusal} (rw e at h))
     by false e = (e, rw e at h)

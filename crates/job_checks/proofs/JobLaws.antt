@@ -7,8 +7,7 @@ use Prim.Native.Nat.{ℕ, ◌≤◌}
 use lib.Dec.{ltb}
 use lib.ListN.{length, take, drop}
 use borrow.Author.Tests.{ltb-false}
-use Rattle.errors.specs.declared.Outcome.{Outcome}
-use Rattle.errors.specs.declared.Outcome.TheVariants.{Accepted, Refused}
+use Rattle.errors.specs.Refusals.{Outcome, ok, err}
 use Rattle.errors.specs.declared.Refusal.{Refusal}
 use Rattle.errors.specs.declared.Refusal.TheVariants.{TooManyRulesOrCandidates, NoSuchCandidate, RepeatedCandidate, NoTemplate}
 use Rattle.errors.specs.Refusals.{Check, first_of, in_turn}
@@ -35,21 +34,21 @@ module _ (j : Job) (rules count : ℕ) (r : rules ≡ rule_count j) (n : count �
   abbrev is_bad : Bool
   is_bad = any_bad (tree_in j) rules (candidates_in j)
 
-  pub too_many : is_over ≡ true → Refused TooManyRulesOrCandidates ≡ first_of (take 2 (job_checks j))
+  pub too_many : is_over ≡ true → err TooManyRulesOrCandidates ≡ first_of (take 2 (job_checks j))
   unfolding first_of
   too_many h = sym (rw (← r, ← n, h))
 
   module _ (few : is_over ≡ false) where
-    pub bad_range : is_reversed j.range ≡ true → Refused NoSuchCandidate ≡ first_of (take 2 (job_checks j))
+    pub bad_range : is_reversed j.range ≡ true → err NoSuchCandidate ≡ first_of (take 2 (job_checks j))
     unfolding first_of
     bad_range h = sym (rw (← r, ← n, few, h, or-true is_bad))
 
     module _ (range : is_reversed j.range ≡ false) (b : Bool) (e : b ≡ not is_bad) where
-      pub all_named : b ≡ true → Accepted ≡ first_of (take 2 (job_checks j))
+      pub all_named : b ≡ true → ok ≡ first_of (take 2 (job_checks j))
       unfolding first_of
       all_named h = sym (rw (← r, ← n, few, not_true is_bad (sym h ∙ e), range))
 
-      pub not_named : b ≡ false → Refused NoSuchCandidate ≡ first_of (take 2 (job_checks j))
+      pub not_named : b ≡ false → err NoSuchCandidate ≡ first_of (take 2 (job_checks j))
       unfolding first_of
       not_named h = sym (rw (← r, ← n, few, not_false is_bad (sym h ∙ e)))
 
@@ -66,7 +65,7 @@ pub record Listed (j : Job) : Type 0 where
   pub ranged : is_range j.range ≡ true
 
 module _ (j : Job) where
-  pub listed : (cs : List Check) → first_of (take 2 (job_checks j) ++ cs) ≡ Accepted → Listed j
+  pub listed : (cs : List Check) → first_of (take 2 (job_checks j) ++ cs) ≡ ok → Listed j
   listed cs h =
       let s = first-both _ _ h in
       let few = or_neither (ltb 16 (rule_count j)) (ltb 1024 (candidate_count j.candidates)) s.0 in
@@ -78,10 +77,10 @@ module _ (j : Job) where
         ranged = not_false (is_range j.range) (sym good.1);
       }
 
-  pub list_refuses : (r : Refusal) → first_of (take 2 (job_checks j)) ≡ Refused r → Refused r ≡ first_of (take 3 (job_checks j))
+  pub list_refuses : (r : Refusal) → first_of (take 2 (job_checks j)) ≡ err r → err r ≡ first_of (take 3 (job_checks j))
   list_refuses r h = sym (first-stop (take 2 (job_checks j)) (drop 2 (take 3 (job_checks j))) r h)
 
-  module _ (w : WellFormed j.file.words) (h : first_of (take 2 (job_checks j)) ≡ Accepted)
+  module _ (w : WellFormed j.file.words) (h : first_of (take 2 (job_checks j)) ≡ ok)
       (b : Bool) (e : b ≡ has_equal_neighbours (sort (keys_of (candidates_in j)))) where
     twice_is : is_twice (candidates_in j) ≡ b
     twice_is =
@@ -92,25 +91,25 @@ module _ (j : Job) where
     twice_decides : first_of (take 3 (job_checks j)) ≡ first_of (drop 2 (take 3 (job_checks j)))
     twice_decides = first_pass (take 2 (job_checks j)) (drop 2 (take 3 (job_checks j))) h
 
-    pub pair_twice : b ≡ true → Refused RepeatedCandidate ≡ first_of (take 3 (job_checks j))
+    pub pair_twice : b ≡ true → err RepeatedCandidate ≡ first_of (take 3 (job_checks j))
     unfolding first_of
     pair_twice t = sym (twice_decides ∙ rw (twice_is ∙ t))
 
-    pub none_twice : b ≡ false → Accepted ≡ first_of (take 3 (job_checks j))
+    pub none_twice : b ≡ false → ok ≡ first_of (take 3 (job_checks j))
     unfolding first_of
     none_twice t = sym (twice_decides ∙ rw (twice_is ∙ t))
 
   -- ---- 27 and 28
 
   module _ (o : Outcome) where
-    pub pairs_refuse : (r : Refusal) → first_of (take 3 (job_checks j)) ≡ Refused r → Refused r ≡ in_turn (first_of (job_checks j) ∷ o ∷ [])
+    pub pairs_refuse : (r : Refusal) → first_of (take 3 (job_checks j)) ≡ err r → err r ≡ in_turn (first_of (job_checks j) ∷ o ∷ [])
     pairs_refuse r h = sym (turn_refuses _ _ r (first-stop (take 3 (job_checks j)) (drop 3 (job_checks j)) r h))
 
-    module _ (h : first_of (take 3 (job_checks j)) ≡ Accepted) (b : Bool) (e : b ≡ not (any_without_template (rules (pairs_in j)))) where
+    module _ (h : first_of (take 3 (job_checks j)) ≡ ok) (b : Bool) (e : b ≡ not (any_without_template (rules (pairs_in j)))) where
       templates_decide : first_of (job_checks j) ≡ first_of (drop 3 (job_checks j))
       templates_decide = first_pass (take 3 (job_checks j)) (drop 3 (job_checks j)) h
 
-      pub no_template_lem : b ≡ false → Refused NoTemplate ≡ in_turn (first_of (job_checks j) ∷ o ∷ [])
+      pub no_template_lem : b ≡ false → err NoTemplate ≡ in_turn (first_of (job_checks j) ∷ o ∷ [])
       unfolding first_of
       no_template_lem t =
           sym (turn_refuses _ _ NoTemplate (templates_decide ∙ rw (not_false (any_without_template (rules (pairs_in j))) (sym t ∙ e))))

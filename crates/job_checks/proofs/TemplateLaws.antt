@@ -7,7 +7,7 @@ use Prim.Native.Nat.{ℕ, zero, suc, ◌+◌, ◌-◌, ◌<◌}
 use native.Mathlib.Omega.{arith}
 use lib.Dec.{eqb}
 use lib.ListN.{length, drop}
-use Rattle.errors.specs.declared.Outcome.TheVariants.{Accepted}
+use Rattle.errors.specs.Refusals.{ok}
 use Rattle.errors.specs.Refusals.{lowest}
 use Rattle.errors.proofs.Laws.{both_pass}
 use Rattle.fragments.specs.Directory.{counted}
@@ -80,10 +80,10 @@ pub bare-next : (n : ℕ) (d : List ℕ) → 0 < n → any_bare n d ≡ (not (is
 bare-next zero d h = absurd (omega arith)
 bare-next (suc n) d h = let e : suc n - 1 ≡ n = omega arith in bare_suc n d ∙ rw e
 
-has-rule : (p : Pair) → forms_outcome p ≡ Accepted → has_rule p ≡ true
+has-rule : (p : Pair) → forms_outcome p ≡ ok → has_rule p ≡ true
 has-rule p h = not_false (has_rule p) (sym (first-both _ _ h).0)
 
-pub bare-rules : (m k n : ℕ) (d w b : List ℕ) → stage_outcome Forms m (pairs_of n d w b) ≡ Accepted
+pub bare-rules : (m k n : ℕ) (d w b : List ℕ) → stage_outcome Forms m (pairs_of n d w b) ≡ ok
     → any_without_template (rules_from k (pairs_of n d w b)) ≡ any_bare n d
 unfolding any rules_from pairs_of any_bare lowest
 bare-rules m k zero d w b h = refl

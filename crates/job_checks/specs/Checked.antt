@@ -1,7 +1,7 @@
 -- What is known of a job that passed its checks, for the steps behind them.
 -- Assumes nothing.
 use Rattle.std.specs.Prelude.{ℕ, ◌≤◌, ◌≡◌, true, false, List, map, length, take}
-use Rattle.errors.specs.declared.Outcome.TheVariants.{Accepted}
+use Rattle.errors.specs.Refusals.{ok}
 use Rattle.sorting.specs.Sorted.{sort}
 use Rattle.syntax.specs.Checks.{WellFormed}
 use Rattle.facts.specs.Keys.{Indexed}
@@ -19,7 +19,7 @@ use Rattle.job_checks.specs.Checks.{Job, pairs_in, tree_in, candidates_in, rule_
 pub record Checked (j : Job) (index keys : List ℕ) : Type 0 where
   pub formed : WellFormed j.file.words
   pub indexed : Indexed j.file.facts index
-  pub trees : stage_outcome TreesWithFacts (length j.fact_text) (pairs_in j) ≡ Accepted
+  pub trees : stage_outcome TreesWithFacts (length j.fact_text) (pairs_in j) ≡ ok
   pub resolved : any (map pair_fails (pairs_in j)) ≡ false
   pub few_rules : rule_count j ≤ 16
   pub few_candidates : candidate_count j.candidates ≤ 1024

@@ -2,7 +2,7 @@
 -- "A job is also given an optional range for `restrict_range`."
 -- Assumes nothing.
 use Rattle.std.specs.Prelude.{ℕ, Bool, true, false, not, ◌||◌, List, [], ◌∷◌, map, ltb, length}
-use Rattle.errors.specs.declared.Outcome.{Outcome}
+use Rattle.errors.specs.Refusals.{Outcome}
 use Rattle.errors.specs.declared.Refusal.TheVariants.{TooManyRulesOrCandidates, NoSuchCandidate, RepeatedCandidate, NoTemplate}
 use Rattle.errors.specs.Refusals.{Check, first_of, in_turn}
 use Rattle.syntax.specs.Trees.{Elems, tree}

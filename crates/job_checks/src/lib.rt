@@ -2,7 +2,7 @@
 #![tactic(auto)]
 
 ghost use Rattle.std.specs.Prelude.{◌≡◌, true, not, List, [], ◌∷◌, ℕ, ◌≤◌, length, take};
-ghost use Rattle.errors.specs.declared.Outcome.TheVariants.{Accepted};
+ghost use Rattle.errors.specs.Refusals.{ok};
 ghost use Rattle.errors.specs.Refusals.{first_of, in_turn};
 ghost use Rattle.sorting.specs.Sorted.{sort};
 ghost use Rattle.syntax.specs.Checks.{WellFormed};
@@ -15,7 +15,7 @@ ghost use Rattle.parses.specs.Parses.{is_parse_list, parses_outcome};
 ghost use Rattle.job_checks.specs.Checks.{asked_of, any_without_template, job_checks};
 
 use checks::Restriction;
-use errors::{Outcome, Refusal};
+use errors::Refusal;
 use fragments::pairs;
 use rules::numbering;
 
@@ -27,22 +27,22 @@ fn check_candidates(
     tree: &[u32],
     candidates: &[u32],
     range: Restriction,
-) -> Outcome
+) -> Result<(), Refusal>
     requires { WellFormed tree.now }
     ensures { result ≡ first_of (take 2 (job_checks (asked_of directory.now words.now bytes.now tree.now candidates.now range))) }
 {
     let rules = numbering::count_rules(directory, words, bytes);
     let count = candidates::count_candidates(candidates);
     if (16 < rules) | (1024 < count) {
-        return Outcome::Refused(Refusal::TooManyRulesOrCandidates);
+        return Err(Refusal::TooManyRulesOrCandidates);
     }
     if checks::is_reversed(range) {
-        return Outcome::Refused(Refusal::NoSuchCandidate);
+        return Err(Refusal::NoSuchCandidate);
     }
     if candidates::are_named(tree, candidates, rules) {
-        return Outcome::Accepted;
+        return Ok(());
     }
-    Outcome::Refused(Refusal::NoSuchCandidate)
+    Err(Refusal::NoSuchCandidate)
 }
 
 // Whether two keys are equal. The table begins with them then, in rising order.
@@ -66,26 +66,26 @@ fn check_and_order(
     range: Restriction,
     keys: &mut [u64],
     more: &mut [u64],
-) -> Outcome
+) -> Result<(), Refusal>
     requires well_formed { WellFormed tree.now }
     requires in_bounds { (1024 ≤ length keys.old) × (1024 ≤ length more.old) }
     ensures value { result ≡ first_of (take 3 (job_checks (asked_of directory.now words.now bytes.now tree.now candidates.now range))) }
-    ensures keys_after { result ≡ Accepted → take (candidate_count candidates.now) keys.new ≡ sort (keys_of (candidates_of candidates.now)) }
+    ensures keys_after { result ≡ ok → take (candidate_count candidates.now) keys.new ≡ sort (keys_of (candidates_of candidates.now)) }
 {
     match check_candidates(directory, words, bytes, tree, candidates, range) {
-        Outcome::Accepted => {
+        Ok(()) => {
             if order_and_compare(candidates, keys, more) {
-                return Outcome::Refused(Refusal::RepeatedCandidate);
+                return Err(Refusal::RepeatedCandidate);
             }
-            Outcome::Accepted
+            Ok(())
         }
-        Outcome::Refused(r) => Outcome::Refused(r),
+        Err(r) => Err(r),
     }
 }
 
 // Whether every rule has a template. A rule has none where its pair has none, and every pair that passed 17 has a rule.
 pub fn have_templates(directory: &[u32]) -> bool
-    ensures { (m : ℕ) (words bytes : List ℕ) → stage_outcome Forms m (pairs directory.now words bytes) ≡ Accepted → result ≡ not (any_without_template (rules (pairs directory.now words bytes))) }
+    ensures { (m : ℕ) (words bytes : List ℕ) → stage_outcome Forms m (pairs directory.now words bytes) ≡ ok → result ≡ not (any_without_template (rules (pairs directory.now words bytes))) }
 {
     let mut row = directory;
     let mut n = directory.len() / 27;
@@ -113,19 +113,19 @@ pub fn check_asked(
     range: Restriction,
     keys: &mut [u64],
     more: &mut [u64],
-) -> Outcome
-    requires well_formed { WellFormed tree.now × (stage_outcome Forms 0 (pairs directory.now words.now bytes.now) ≡ Accepted) }
+) -> Result<(), Refusal>
+    requires well_formed { WellFormed tree.now × (stage_outcome Forms 0 (pairs directory.now words.now bytes.now) ≡ ok) }
     requires in_bounds { (1024 ≤ length keys.old) × (1024 ≤ length more.old) }
     ensures value { result ≡ in_turn (first_of (job_checks (asked_of directory.now words.now bytes.now tree.now candidates.now range)) ∷ parses_outcome parses.now parse_text.now ∷ []) }
-    ensures parses_value { result ≡ Accepted → (is_parse_list (length parse_text.now) parses.now ≡ true) × (take (candidate_count candidates.now) keys.new ≡ sort (keys_of (candidates_of candidates.now))) }
+    ensures parses_value { result ≡ ok → (is_parse_list (length parse_text.now) parses.now ≡ true) × (take (candidate_count candidates.now) keys.new ≡ sort (keys_of (candidates_of candidates.now))) }
 {
     match check_and_order(directory, words, bytes, tree, candidates, range, keys, more) {
-        Outcome::Accepted => {
+        Ok(()) => {
             if have_templates(directory) {
                 return parse_checks::check_parses(parses, parse_text);
             }
-            Outcome::Refused(Refusal::NoTemplate)
+            Err(Refusal::NoTemplate)
         }
-        Outcome::Refused(r) => Outcome::Refused(r),
+        Err(r) => Err(r),
     }
 }

@@ -8,7 +8,7 @@ use native.Mathlib.Omega.{arith}
 use lib.ListN.{drop, drop_of_length-le}
 use Rattle.words.specs.Fields.{word_value, start_of, end_of, word_of}
 use Rattle.words.proofs.TestLaws.{low_or}
-use Rattle.syntax.specs.declared.parts.Range.{Range}
+use Rattle.words.specs.declared.texts.Range.{Range}
 use Rattle.syntax.specs.Trees.{Elems, none, token, node, size, words, tree}
 use Rattle.syntax.specs.Accessors.{range_of, some, element_at}
 use Rattle.syntax.specs.Checks.{WellFormed}

@@ -6,7 +6,7 @@ use mathlib.Core.List.{List, [], ◌∷◌, map}
 use Prim.Native.Nat.{ℕ, zero, suc, ◌≤◌, ◌<◌}
 use native.Mathlib.Omega.{arith}
 use lib.ListN.{length}
-use Rattle.errors.specs.declared.Outcome.TheVariants.{Accepted}
+use Rattle.errors.specs.Refusals.{ok}
 use Rattle.words.proofs.TestLaws.{or_neither}
 use Rattle.parsing.specs.Reading.{Reading, read, refused, reading}
 use Rattle.parsing.proofs.Grammar.{read_exactly}
@@ -97,7 +97,7 @@ pub record HasTemplate (q : Rules) (f : Found) : Type 0 where
   pub form : rule_form f < 5
   pub low : (fact_text : List ℕ) («module» : ℕ) → LowSlots (rule_fragments fact_text q f «module»)
 
-module _ (q : Rules) (m : ℕ) (trees : stage_outcome TreesWithFacts m (pairs q.directory q.words q.bytes) ≡ Accepted)
+module _ (q : Rules) (m : ℕ) (trees : stage_outcome TreesWithFacts m (pairs q.directory q.words q.bytes) ≡ ok)
     (resolved : any (map pair_fails (pairs q.directory q.words q.bytes)) ≡ false)
     (with : any_without_template (rules (pairs q.directory q.words q.bytes)) ≡ false)
     (number : ℕ) (low : number < length (rules (pairs q.directory q.words q.bytes))) where

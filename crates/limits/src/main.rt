@@ -3,7 +3,7 @@
 
 use ssr::{ssr_check_file, ssr_check_rule_tree};
 use std::io;
-use words::texts;
+use words::slices;
 
 // One word; past the end nothing is stored.
 fn put(words: &mut [u32], at: usize, word: u32) {
@@ -85,7 +85,7 @@ fn first(words: &[u32], count: usize) -> &[u32] {
 // The number of a file's tree over a text of some bytes.
 fn file(words: &[u32], bytes: usize) -> u32 {
     let text = [120u8; 65536];
-    ssr_check_file(words, texts::part_of(&text, 0, bytes), &[])
+    ssr_check_file(words, slices::part_of(&text, 0, bytes), &[])
 }
 
 // The number of the first words of a root with tokens.

@@ -6,7 +6,7 @@ use mathlib.Core.List.{List, [], ◌∷◌, ◌++◌}
 use Prim.Native.Nat.{ℕ, ◌≤◌}
 use native.Mathlib.Omega.{arith}
 use lib.ListN.{length, take, drop}
-use Rattle.errors.specs.declared.Outcome.TheVariants.{Accepted, Refused}
+use Rattle.errors.specs.Refusals.{ok, err}
 use Rattle.errors.specs.declared.Refusal.{Refusal}
 use Rattle.errors.specs.declared.Refusal.TheVariants.{NoSuchNodeOrRule}
 use Rattle.errors.specs.Refusals.{first_of, in_turn}
@@ -63,10 +63,10 @@ module _ (q : Rules) (f : File) (range : Restriction) (node room : ℕ) (found :
 
 module _ (q : Rules) (f : File) where
   module _ (number : ℕ) (range : Restriction) (node : ℕ) where
-    pub match_refused : (r : Refusal) → in_turn (to_resolve q f) ≡ Refused r → match_outcome q f number range node ≡ Refused r
+    pub match_refused : (r : Refusal) → in_turn (to_resolve q f) ≡ err r → match_outcome q f number range node ≡ err r
     match_refused r h = turns_refuse (to_resolve q f) (asked_outcome (found_rule q number) f range node ∷ []) r h
 
-    pub match_asked : in_turn (to_resolve q f) ≡ Accepted → match_outcome q f number range node ≡ asked_outcome (found_rule q number) f range node
+    pub match_asked : in_turn (to_resolve q f) ≡ ok → match_outcome q f number range node ≡ asked_outcome (found_rule q number) f range node
     match_asked h =
         turns_pass (to_resolve q f) (asked_outcome (found_rule q number) f range node ∷ []) h ∙ turn_last (asked_outcome (found_rule q number) f range node)
 

@@ -2,8 +2,8 @@
 -- bindings in pattern order, and the buffer holds the texts of its noted comments in turn; 16 comes last, where these do not fit."
 -- Assumes nothing.
 use Rattle.std.specs.Prelude.{ℕ, not, ◌&&◌, List, [], ◌∷◌, length}
-use Rattle.errors.specs.declared.Outcome.{Outcome}
-use Rattle.errors.specs.declared.Outcome.TheVariants.{Accepted, Refused}
+use Rattle.std.specs.Prelude.{Ok, Err}
+use Rattle.errors.specs.Refusals.{Outcome}
 use Rattle.errors.specs.declared.Refusal.TheVariants.{NoSuchNodeOrRule}
 use Rattle.errors.specs.Refusals.{first_of, in_turn}
 use Rattle.words.specs.Buffer.{used_of, filled}
@@ -33,12 +33,12 @@ match_outcome q f number range node =
 
 -- the attempt that is made where nothing is refused
 abbrev pub answer_by : Outcome → ℕ → Attempt → NodeMatch
-answer_by (Refused r) room a = refused_match r
-answer_by Accepted room a = answer_of room a
+answer_by (Err r) room a = refused_match r
+answer_by (Ok tt) room a = answer_of room a
 
 abbrev pub bytes_by : Outcome → ℕ → Attempt → List ℕ
-bytes_by (Refused r) room a = []
-bytes_by Accepted room a = bytes_of room a
+bytes_by (Err r) room a = []
+bytes_by (Ok tt) room a = bytes_of room a
 
 -- the operation: its answer, and the buffer then
 abbrev pub matched_node : Rules → File → ℕ → Restriction → ℕ → ℕ → NodeMatch

@@ -2,7 +2,7 @@
 #![tactic(auto)]
 
 ghost use Rattle.std.specs.Prelude.{◌≡◌, false, ◌&&◌, List, map, ℕ, ◌≤◌, ◌/◌, length};
-ghost use Rattle.errors.specs.declared.Outcome.TheVariants.{Accepted};
+ghost use Rattle.errors.specs.Refusals.{ok};
 ghost use Rattle.words.specs.Buffer.{used_of, filled};
 ghost use Rattle.syntax.specs.Checks.{WellFormed};
 ghost use Rattle.fragments.specs.Pairs.{pairs};
@@ -18,7 +18,7 @@ ghost use Rattle.rule_match.specs.RuleMatch.{found_match};
 ghost use Rattle.preparing.specs.Ready.{MarksRoomy};
 
 use answers::NodeMatch;
-use errors::{Outcome, Refusal};
+use errors::Refusal;
 use resolved::check_and_resolve;
 use rule_match::Question;
 use rules::numbering;
@@ -60,7 +60,7 @@ fn match_asked(
     marks: &mut [u32],
     out: &mut [u8],
 ) -> NodeMatch
-    requires bytes_value { (stage_outcome TreesWithFacts fact_bytes (pairs directory.now words.now bytes.now) ≡ Accepted) × (any (map pair_fails (pairs directory.now words.now bytes.now)) ≡ false) }
+    requires bytes_value { (stage_outcome TreesWithFacts fact_bytes (pairs directory.now words.now bytes.now) ≡ ok) × (any (map pair_fails (pairs directory.now words.now bytes.now)) ≡ false) }
     requires all_roomy { AllRoomy words.now index.old spare.old paths.old calls.old × MarksRoomy words.now marks.old }
     requires file_of { FileOf tree.now facts.now file_index.now × (length out.old ≤ 1048576) }
     ensures value { result ≡ answer_by (asked_outcome (found_rule (rules_of directory.now words.now bytes.now fact_bytes) question.rule) (file_of tree.now text.now facts.now) question.range question.node) (length out.old) (found_match (rules_of directory.now words.now bytes.now fact_bytes) (file_of tree.now text.now facts.now) (found_rule (rules_of directory.now words.now bytes.now fact_bytes) question.rule) question.range question.node) }
@@ -109,11 +109,11 @@ fn match_in(
         directory, words, bytes, fact_bytes, tree, text, facts, index, spare, paths, calls,
         file_index,
     ) {
-        Outcome::Accepted => match_asked(
+        Ok(()) => match_asked(
             directory, words, bytes, fact_bytes, tree, text, facts, file_index, question, index,
             spare, paths, calls, marks, out,
         ),
-        Outcome::Refused(r) => answers::refuse(r, out),
+        Err(r) => answers::refuse(r, out),
     }
 }
 

@@ -5,7 +5,7 @@ ghost use Rattle.facts.specs.Keys.{Indexed};
 ghost use Rattle.matcher.specs.FileFacts.{resolves_to, calls_function, takes_self, self_kind_at, derefs, name_token, FileOf};
 
 use facts::index;
-use words::fields;
+use words::slices;
 
 // Whether an expression has a type after some dereferences, and after how many.
 #[derive(Clone, Copy)]
@@ -91,7 +91,7 @@ pub fn field_name<'a>(words: &'a [u32], facts: &[u32], index: &[u64], element: u
     let place = index::find(facts, index, 5, element, 0);
     if place < facts.len() / 4 {
         let number = index::value(facts, place, 1) as usize;
-        return fields::part_of(words, number * 3, number * 3 + 3);
+        return slices::part_of(words, number * 3, number * 3 + 3);
     }
     &words[..0]
 }

@@ -4,7 +4,7 @@ ghost use Rattle.syntax.specs.Trees.{elems};
 ghost use Rattle.matcher.specs.Tokens.{agree, same_name, same_stop, is_pair, skips, comma_sheet, is_extra, past_separator, is_same_token, matches_token, after_token};
 
 use syntax::accessors;
-use words::texts;
+use words::slices;
 
 // A separator that may stand, or be left out, right before a closer, by their kinds.
 #[derive(Clone, Copy)]
@@ -75,7 +75,7 @@ pub fn agree(kind: u32, text: &[u8], other_kind: u32, other: &[u8]) -> bool
     ensures { result ≡ agree kind text.now other_kind other.now }
 {
     if kind == other_kind {
-        return texts::same_text(text, other);
+        return text == other;
     }
     false
 }
@@ -84,14 +84,14 @@ pub fn agree(kind: u32, text: &[u8], other_kind: u32, other: &[u8]) -> bool
 pub fn same_name(kind: u32, text: &[u8], other_kind: u32, other: &[u8]) -> bool
     ensures { result ≡ same_name kind text.now other_kind other.now }
 {
-    texts::same_text(text, other)
+    text == other
 }
 
 // Whether a token of the code is the one at which a run stops.
 pub fn same_stop(kind: u32, text: &[u8], other_kind: u32, other: &[u8]) -> bool
     ensures { result ≡ same_stop kind text.now other_kind other.now }
 {
-    texts::same_text(text, other)
+    text == other
 }
 
 // Whether the code's token is a separator that the pattern, about to close something, does without.
@@ -124,9 +124,9 @@ fn is_same_token(rule: &[u8], file: &[u8], p: &[u32], c: &[u32]) -> bool
         let other = accessors::range_of(c);
         return agree(
             siblings::kind_of(p),
-            texts::part_of(rule, at.start, at.end),
+            slices::part_of(rule, at.start, at.end),
             siblings::kind_of(c),
-            texts::part_of(file, other.start, other.end),
+            slices::part_of(file, other.start, other.end),
         );
     }
     false

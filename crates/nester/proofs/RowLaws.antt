@@ -16,7 +16,7 @@ use Rattle.syntax.specs.Parts.{span}
 use Rattle.syntax.specs.Trees.{Elems, none, token, node, size, words, tree}
 use Rattle.syntax.specs.Accessors.{range_of, some, element_at, by_itself}
 use Rattle.syntax.specs.Checks.{WellFormed}
-use Rattle.syntax.specs.declared.parts.Range.{Range}
+use Rattle.words.specs.declared.texts.Range.{Range}
 use Rattle.syntax.proofs.PartLaws.{span-token, span_node}
 use Rattle.syntax.proofs.Places.{Good, looks, tree-stands}
 use Rattle.captures.specs.declared.Binding.{Binding}

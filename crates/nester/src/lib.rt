@@ -9,7 +9,7 @@ ghost use Rattle.nester.specs.Nest.{over, holder};
 ghost use Rattle.nester.specs.Rows.{field, is_met, bindings_in, slot_of, Candidates, Held, Clear, Settles, Nested};
 
 use syntax::{accessors, parts};
-use words::fields;
+use words::{fields, slices};
 
 // Where a match has come to: the state and the slot of its row.
 #[derive(Clone, Copy)]
@@ -25,7 +25,7 @@ fn is_over(words: &[u32], i: usize, j: usize) -> bool
     requires j_bound { j < size (tree words.now) }
     ensures { result ≡ over (tree words.now) i j }
 {
-    (i <= j) & (j < i + parts::span_of(fields::tail(words, i * 3)))
+    (i <= j) & (j < i + parts::span_of(slices::tail(words, i * 3)))
 }
 
 // Word j of row i.

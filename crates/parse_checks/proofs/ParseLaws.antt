@@ -10,7 +10,7 @@ use lib.ListN.{length, take, drop}
 use lib.Seq.{get_or-drop}
 use Rattle.words.specs.Fields.{kind_at, value_at, start_of, end_of, parse_kind, word_value}
 use Rattle.words.specs.Texts.{part}
-use Rattle.errors.specs.declared.Outcome.TheVariants.{Accepted, Refused}
+use Rattle.errors.specs.Refusals.{ok, err}
 use Rattle.errors.specs.declared.Refusal.TheVariants.{MalformedParses}
 use Rattle.errors.specs.Refusals.{first_of}
 use Rattle.parses.specs.Ranges.{NodeRange, is_range, are_ranges, ranges_of}
@@ -62,10 +62,10 @@ module _ (l text : List ℕ) where
 
   -- ---- 28
 
-  pub outcome-malformed : is_parse_list (length text) l ≡ false → parses_outcome l text ≡ Refused MalformedParses
+  pub outcome-malformed : is_parse_list (length text) l ≡ false → parses_outcome l text ≡ err MalformedParses
   unfolding first_of
   outcome-malformed h = rw h
 
-  pub outcome_of : is_parse_list (length text) l ≡ true → parses_outcome l text ≡ cond (is_repeated (parses_of l text)) (Refused MalformedParses) Accepted
+  pub outcome_of : is_parse_list (length text) l ≡ true → parses_outcome l text ≡ cond (is_repeated (parses_of l text)) (err MalformedParses) ok
   unfolding first_of
   outcome_of h = rw h

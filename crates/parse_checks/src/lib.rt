@@ -4,13 +4,13 @@
 mod repeats; // repeats.rt: whether kind and text come twice
 
 ghost use Rattle.std.specs.Prelude.{◌≡◌, true, length};
-ghost use Rattle.errors.specs.declared.Outcome.TheVariants.{Accepted};
+ghost use Rattle.errors.specs.Refusals.{ok};
 ghost use Rattle.parses.specs.Ranges.{is_range, are_ranges};
 ghost use Rattle.parses.specs.Parses.{is_parse, is_parse_list, parses_outcome};
 
-use errors::{Outcome, Refusal};
+use errors::Refusal;
 use parses::parse_words;
-use words::fields;
+use words::{fields, slices};
 
 // Whether a part begins with a range inside n bytes.
 fn is_range(c: &[u32], n: usize) -> bool
@@ -29,7 +29,7 @@ fn are_ranges(words: &[u32], n: usize) -> bool
     let mut c = words;
     while 2 <= c.len() {
         if is_range(c, n) {
-            let d = fields::tail(c, 2);
+            let d = slices::tail(c, 2);
             c = d;
         } else {
             return false;
@@ -46,7 +46,7 @@ fn is_parse(c: &[u32], n: usize) -> bool
     if c.len() < end {
         return false;
     }
-    if (fields::kind(c, 0) == 8) & (fields::parse_kind(c) != 0) & is_range(fields::tail(c, 1), n) {
+    if (fields::kind(c, 0) == 8) & (fields::parse_kind(c) != 0) & is_range(slices::tail(c, 1), n) {
         return are_ranges(&c[3..end], fields::end(c) - fields::start(c));
     }
     false
@@ -59,7 +59,7 @@ fn is_parse_list(parses: &[u32], n: usize) -> bool
     let mut c = parses;
     while 0 < c.len() {
         if is_parse(c, n) {
-            let d = fields::tail(c, parse_words(c));
+            let d = slices::tail(c, parse_words(c));
             c = d;
         } else {
             return false;
@@ -69,15 +69,15 @@ fn is_parse_list(parses: &[u32], n: usize) -> bool
 }
 
 // 28, over a parse text.
-pub fn check_parses(parses: &[u32], text: &[u8]) -> Outcome
+pub fn check_parses(parses: &[u32], text: &[u8]) -> Result<(), Refusal>
     ensures value { result ≡ parses_outcome parses.now text.now }
-    ensures parses_value { result ≡ Accepted → is_parse_list (length text.now) parses.now ≡ true }
+    ensures parses_value { result ≡ ok → is_parse_list (length text.now) parses.now ≡ true }
 {
     if is_parse_list(parses, text.len()) {
         if repeats::is_repeated(parses, text) {
-            return Outcome::Refused(Refusal::MalformedParses);
+            return Err(Refusal::MalformedParses);
         }
-        return Outcome::Accepted;
+        return Ok(());
     }
-    Outcome::Refused(Refusal::MalformedParses)
+    Err(Refusal::MalformedParses)
 }

@@ -6,7 +6,7 @@ ghost use Rattle.parses.specs.Parses.{parse_words, parses_of, is_parse_list, is_
 ghost use Rattle.parse_checks.specs.Marks.{mark_from, mark_of, counted_at, Counted};
 
 use parses::{find_parse, parse_text, parse_words};
-use words::{fields, texts};
+use words::{fields, slices};
 
 // A byte as a number.
 fn wide(b: u8) -> usize
@@ -42,8 +42,8 @@ fn mark_of(kind: u32, t: &[u8]) -> usize
     }
     let first = (kind as usize % 16384 + n % 16384) % 16384;
     mark_from(
-        mark_from(first, texts::part_of(t, 0, 32)),
-        texts::part_of(t, from, n),
+        mark_from(first, slices::part_of(t, 0, 32)),
+        slices::part_of(t, from, n),
     )
 }
 
@@ -66,7 +66,7 @@ fn count_marks(parses: &[u32], text: &[u8], counts: &mut [u8])
 {
     let mut c = parses;
     while 0 < c.len() {
-        let d = fields::tail(c, parse_words(c));
+        let d = slices::tail(c, parse_words(c));
         count_mark(counts, mark_of(fields::parse_kind(c), parse_text(c, text)));
         c = d;
     }
@@ -98,7 +98,7 @@ fn is_repeated_by(parses: &[u32], text: &[u8], counted: bool, counts: &[u8]) -> 
 {
     let mut c = parses;
     while 0 < c.len() {
-        let d = fields::tail(c, parse_words(c));
+        let d = slices::tail(c, parse_words(c));
         if is_again(c, d, text, counted, counts) {
             return true;
         }

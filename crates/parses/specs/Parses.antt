@@ -4,7 +4,7 @@
 use Rattle.std.specs.Prelude.{ℕ, zero, suc, ◌+◌, ◌-◌, ◌*◌, Bool, true, false, cond, not, ◌&&◌, ◌||◌, List, [], ◌∷◌, map, eqb, leb, length, take, drop}
 use Rattle.words.specs.Fields.{kind_at, start_of, end_of, parse_kind, parse_count}
 use Rattle.words.specs.Texts.{part, same_text}
-use Rattle.errors.specs.declared.Outcome.{Outcome}
+use Rattle.errors.specs.Refusals.{Outcome}
 use Rattle.errors.specs.declared.Refusal.TheVariants.{MalformedParses}
 use Rattle.errors.specs.Refusals.{first_of}
 use Rattle.parses.specs.Ranges.{NodeRange, ranges_of, is_range, are_ranges}

@@ -8,7 +8,7 @@ ghost use Rattle.parses.specs.Ranges.{ranges_of, is_among};
 ghost use Rattle.parses.specs.Parses.{parse_words, parse_at, parses_of, is_parse_list, is_of, lookup};
 ghost use Rattle.parses.specs.Answers.{found_is};
 
-use words::{fields, texts};
+use words::{fields, slices};
 
 // Where the node ranges of a parse stand: at a word, and how many they are. Where no parse is found, both are 0.
 #[derive(Clone, Copy)]
@@ -27,7 +27,7 @@ pub fn is_node_range(ranges: &[u32], start: usize, end: usize) -> bool
         if (fields::value(c, 0) as usize == start) & (fields::value(c, 1) as usize == end) {
             return true;
         }
-        let d = fields::tail(c, 2);
+        let d = slices::tail(c, 2);
         c = d;
     }
     false
@@ -44,7 +44,7 @@ pub fn parse_words(c: &[u32]) -> usize
 pub fn parse_text<'a>(c: &[u32], text: &'a [u8]) -> &'a [u8]
     ensures { result.now ≡ part text.now (start_of c.now) (end_of c.now) }
 {
-    texts::part_of(text, fields::start(c), fields::end(c))
+    slices::part_of(text, fields::start(c), fields::end(c))
 }
 
 // Whether the parse that a part begins with is of a kind and a text.
@@ -53,7 +53,7 @@ fn is_parse_of(c: &[u32], text: &[u8], kind: u32, t: &[u8]) -> bool
 {
     let own = fields::parse_kind(c);
     if own == kind {
-        return texts::same_text(parse_text(c, text), t);
+        return parse_text(c, text) == t;
     }
     false
 }
@@ -66,7 +66,7 @@ pub fn find_parse(parses: &[u32], text: &[u8], kind: u32, t: &[u8]) -> Found
 {
     let mut i = 0;
     while i < parses.len() {
-        let c = fields::tail(parses, i);
+        let c = slices::tail(parses, i);
         if is_parse_of(c, text, kind, t) {
             return Found {
                 found: true,

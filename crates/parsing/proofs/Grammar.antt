@@ -88,7 +88,6 @@ module _ (text : List ℕ) where
   on acc acc' s s' t ts e = ap (λ n. follow n (λ acc s. run text acc s ts)) e
 
   not_kind : (t : Token) → Says text t not_text → is_text text t kind_text ≡ false
-  unfolding same_text
   not_kind t h = rw h
 
   module _ (acc : List Element) (p : Open) where
@@ -340,10 +339,10 @@ short = (read_exactly _ _ _).0 refl
 
 -- `${a:not(kind(literal))}`
 long : Reads (word 8 1 ∷ word 9 1 ∷ word 1 1 ∷ word 10 1 ∷ word 1 3 ∷ word 168 1 ∷ word 1 4 ∷ word 168 1 ∷ word 1 7 ∷ word 5 1 ∷ word 5 1 ∷ word 6 1 ∷ []) (36 ∷ 123 ∷ 97 ∷ 58 ∷ not_text ++ open_text ++ kind_text ++ open_text ++ literal_text ++ close_text ++ close_text ++ (125 ∷ [])) (placeholder (var 0 23 (record { kind = 1; start = 2; length = 1 }) (1 ∷ [])) ∷ [])
-unfolding reading run is_token_list all_token_words total_length tokens_from has_name vars same_text part
+unfolding reading run is_token_list all_token_words total_length tokens_from has_name vars part
 long = (read_exactly _ _ _).0 refl
 
 -- `$a$a` is read in no way
 twice : (es : List Element) → Reads (word 8 1 ∷ word 1 1 ∷ word 8 1 ∷ word 1 1 ∷ []) (36 ∷ 97 ∷ 36 ∷ 97 ∷ []) es → ⊥
-unfolding reading run is_token_list all_token_words total_length tokens_from has_name vars same_text part
+unfolding reading run is_token_list all_token_words total_length tokens_from has_name vars part
 twice es h = unread _ es ((read_exactly _ _ es).1 h)

@@ -20,7 +20,7 @@ use Rattle.parsing.specs.Placeholders.{Passed, PlaceholderRead, Taken, Took, SoF
 use Rattle.parsing.proofs.Laws.{here, follows, goes, run_end}
 use Rattle.errors.specs.declared.Refusal.{Refusal}
 use Rattle.parsing.proofs.PatternLaws.{vars_snoc}
-use Rattle.errors.specs.declared.Outcome.TheVariants.{Accepted, Refused as Rejected}
+use Rattle.errors.specs.Refusals.{ok, err as Rejected}
 use Rattle.parsing.specs.declared.patterns.ParsedPattern.{ParsedPattern}
 use Rattle.errors.specs.declared.Refusal.TheVariants.{MalformedList}
 
@@ -78,7 +78,7 @@ module _ (words text : List ℕ) where
   so_far_none = record { elements = []; shows = empty_pattern_lem; reads = refl }
 
   -- the plain tokens up to d, then the end of the list
-  pub so_far_end : (c d : Cursor) (p : Pattern) → SoFar words text c p → ((acc : List Element) → Passed words text c d acc) → length words ≤ d.index → record { outcome = Accepted; pattern = p } ≡ answer_of (run text [] top (tokens_from words 0))
+  pub so_far_end : (c d : Cursor) (p : Pattern) → SoFar words text c p → ((acc : List Element) → Passed words text c d acc) → length words ≤ d.index → record { outcome = ok; pattern = p } ≡ answer_of (run text [] top (tokens_from words 0))
   so_far_end c d p s pass h =
       let q = pass s.elements in
       rw (s.shows, ← q.same, s.reads, q.reads, run_end words text d h q.elements top)
@@ -111,10 +111,10 @@ pub record WasRead (p : Reading) (x : ParsedPattern) : Type 0 where
   pub is : p ≡ read elements
   pub shows : x.pattern ≡ pattern_of (vars elements) []
 
-pub was_read : (p : Reading) (x : ParsedPattern) → x ≡ answer_of p → x.outcome ≡ Accepted → WasRead p x
+pub was_read : (p : Reading) (x : ParsedPattern) → x ≡ answer_of p → x.outcome ≡ ok → WasRead p x
 was_read (read es) x h e = record { elements = es; is = refl; shows = ap (λ x. x.pattern) h }
 was_read (refused r) x h e = absurd (let o : x.outcome ≡ Rejected r = ap (λ x. x.outcome) h in let z : ◌≡◌ {A = ℕ} 0 1 = cc in omega arith)
 
 pub was_refused : (p : Reading) (x : ParsedPattern) (r : Refusal) → x ≡ answer_of p → x.outcome ≡ Rejected r → p ≡ refused r
-was_refused (read es) x r h e = absurd (let o : x.outcome ≡ Accepted = ap (λ x. x.outcome) h in let z : ◌≡◌ {A = ℕ} 0 1 = cc in omega arith)
+was_refused (read es) x r h e = absurd (let o : x.outcome ≡ ok = ap (λ x. x.outcome) h in let z : ◌≡◌ {A = ℕ} 0 1 = cc in omega arith)
 was_refused (refused s) x r h e = let o : x.outcome ≡ Rejected s = ap (λ x. x.outcome) h in cc

@@ -6,8 +6,7 @@ use Rattle.words.specs.Texts.{part, same_text}
 use Rattle.parsing.specs.declared.patterns.Placeholder.{Placeholder}
 use Rattle.parsing.specs.declared.patterns.Pattern.{Pattern}
 use Rattle.parsing.specs.declared.patterns.ParsedPattern.{ParsedPattern}
-use Rattle.errors.specs.declared.Outcome.{Outcome}
-use Rattle.errors.specs.declared.Outcome.TheVariants.{Accepted, Refused}
+use Rattle.errors.specs.Refusals.{Outcome, ok, err}
 use Rattle.parsing.specs.Reading.{Var, Element, vars, Reading, read, refused, behind}
 
 -- 01's number of a reading, 0 where the list was read
@@ -39,8 +38,8 @@ abbrev pub empty_pattern : Pattern
 empty_pattern = record { placeholders = replicate 8 no_placeholder; count = 0; nots = replicate 50 0; constraints = 0 }
 
 abbrev pub answer_of : Reading → ParsedPattern
-answer_of (read es) = record { outcome = Accepted; pattern = pattern_of (vars es) [] }
-answer_of (refused r) = record { outcome = Refused r; pattern = empty_pattern }
+answer_of (read es) = record { outcome = ok; pattern = pattern_of (vars es) [] }
+answer_of (refused r) = record { outcome = err r; pattern = empty_pattern }
 
 -- the first place whose name is a text, or how many there are
 unfoldable pub name_index : List ℕ → List Placeholder → List ℕ → ℕ

@@ -9,9 +9,9 @@ use Rattle.parsing.specs.declared.patterns.Pattern.{Pattern}
 use Rattle.parsing.specs.declared.patterns.Parsed.{Parsed}
 use Rattle.parsing.specs.declared.patterns.Step.{Step}
 use Rattle.parsing.specs.declared.patterns.Step.TheVariants.{At, Refused}
-use Rattle.parsing.specs.declared.patterns.Range.{Range}
-use Rattle.errors.specs.declared.Outcome.{Outcome}
-use Rattle.errors.specs.declared.Outcome.TheVariants.{Accepted, Refused as Stopped}
+use Rattle.words.specs.declared.texts.Range.{Range}
+use Rattle.std.specs.Prelude.{Ok, Err}
+use Rattle.errors.specs.Refusals.{Outcome}
 use Rattle.parsing.specs.Reading.{Var, Element, placeholder, vars, Next, go, stop, Open, Name, named, State, Reading, refused, dollar, inside, top, is_dollar, name_of, run, follow, ended, ended_as}
 use Rattle.parsing.specs.Answers.{pattern_of, Eight, Fifty}
 
@@ -48,12 +48,12 @@ abbrev pub var_of : Range → Token → List ℕ → Var
 var_of whole name ns = record { start = whole.start; end = whole.end; name = name; nots = ns }
 
 abbrev pub EndRead : List ℕ → Pattern → ℕ → Range → Token → Outcome → Pattern → Type 0
-EndRead text before k whole name Accepted after =
+EndRead text before k whole name (Ok tt) after =
     Eight after × (after.nots ≡ before.nots) × (after.constraints ≡ before.constraints)
     × ((acc : List Element) (ns : List ℕ) → before ≡ pattern_of (vars acc) ns → length ns ≡ k
     → (after ≡ pattern_of (vars acc ++ (var_of whole name ns ∷ [])) [])
     × (ended_as text acc whole.start (named name) ns whole.end ≡ go (acc ++ (placeholder (var_of whole name ns) ∷ [])) top))
-EndRead text before k whole name (Stopped r) after =
+EndRead text before k whole name (Err r) after =
     (acc : List Element) (ns : List ℕ) → before ≡ pattern_of (vars acc) ns → ended_as text acc whole.start (named name) ns whole.end ≡ stop r
 
 -- the end of a placeholder whose first token may be its name

@@ -1,11 +1,11 @@
 // A placeholder's constraints: how many `not`s stand around each `kind(literal)`.
-ghost use Rattle.std.specs.Prelude.{◌+◌, ◌<◌, length};
+ghost use Rattle.std.specs.Prelude.{◌≡◌, ◌+◌, ◌<◌, length};
+ghost use Rattle.words.specs.Texts.{same_text, kind_text, not_text, literal_text};
 ghost use Rattle.tokens.specs.Tokens.{Along};
 ghost use Rattle.parsing.specs.Steps.{KindEndRead, KindRead, NotClosed, ConstraintRead, InsideRead};
 
 use errors::Refusal;
 use tokens::{Cursor, Token};
-use words::texts;
 
 // A constraint: its `not`s and the cursor behind it, or its refusal.
 #[derive(Clone, Copy)]
@@ -22,6 +22,27 @@ pub enum Inside {
     Refused(Refusal),
 }
 
+// Whether a text is `kind`.
+fn is_kind(t: &[u8]) -> bool
+    ensures { result ≡ same_text t.now kind_text }
+{
+    t == b"kind".as_slice()
+}
+
+// Whether a text is `not`.
+fn is_not(t: &[u8]) -> bool
+    ensures { result ≡ same_text t.now not_text }
+{
+    t == b"not".as_slice()
+}
+
+// Whether a text is `literal`.
+fn is_literal(t: &[u8]) -> bool
+    ensures { result ≡ same_text t.now literal_text }
+{
+    t == b"literal".as_slice()
+}
+
 // Behind the IDENT inside `kind`: `)`, and only then what the IDENT says.
 fn parse_kind_end(words: &[u32], text: &[u8], c: Cursor, name: Token) -> Constraint
     requires along { Along words.now c }
@@ -29,7 +50,7 @@ fn parse_kind_end(words: &[u32], text: &[u8], c: Cursor, name: Token) -> Constra
     ensures { KindEndRead words.now text.now c name result }
 {
     if tokens::is_text(words, text, c, b")") {
-        if texts::is_literal(tokens::text_at(text, name)) {
+        if is_literal(tokens::text_at(text, name)) {
             return Constraint::Nots(0, tokens::next(words, c));
         }
         return Constraint::Refused(Refusal::UnknownKind);
@@ -77,10 +98,10 @@ pub fn parse_constraint(words: &[u32], text: &[u8], c: Cursor) -> Constraint
         return Constraint::Refused(Refusal::EndsBeforeConstraint);
     }
     let word = tokens::text_at(text, tokens::token_at(words, c));
-    if texts::is_kind(word) {
+    if is_kind(word) {
         return parse_kind(words, text, tokens::next(words, c));
     }
-    if texts::is_not(word) {
+    if is_not(word) {
         let d = tokens::next(words, c);
         if tokens::is_text(words, text, d, b"(") {
             return match parse_constraint(words, text, tokens::next(words, d)) {

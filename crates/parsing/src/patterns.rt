@@ -8,16 +8,10 @@ ghost use Rattle.parsing.specs.Placeholders.{BracesRead, EndRead, NamedRead, Pla
 
 use crate::constraints;
 use crate::constraints::Inside;
-use errors::{Outcome, Refusal};
+use errors::Refusal;
 use tokens::{Cursor, Token};
-use words::texts;
-
-// Bytes of the list's text.
-#[derive(Clone, Copy)]
-pub struct Range {
-    pub start: usize,
-    pub end: usize,
-}
+use words::slices;
+use words::texts::Range;
 
 // A placeholder: its bytes, its name's, and how many constraints it has.
 #[derive(Clone, Copy)]
@@ -39,7 +33,7 @@ pub struct Pattern {
 // The answer of reading tokens; a refusal comes with no placeholders.
 #[derive(Clone, Copy)]
 pub struct ParsedPattern {
-    pub outcome: Outcome,
+    pub outcome: Result<(), Refusal>,
     pub pattern: Pattern,
 }
 
@@ -60,7 +54,7 @@ pub struct Parsed {
 // Whether a placeholder was taken in, and the placeholders then.
 #[derive(Clone, Copy)]
 pub struct Ended {
-    pub outcome: Outcome,
+    pub outcome: Result<(), Refusal>,
     pub pattern: Pattern,
 }
 
@@ -93,7 +87,7 @@ pub fn find_name(text: &[u8], pattern: Pattern, name: &[u8]) -> usize
     let mut i: usize = 0;
     while i < n {
         let p = pattern.placeholders[i];
-        if texts::same_text(texts::part_of(text, p.name.start, p.name.end), name) {
+        if slices::part_of(text, p.name.start, p.name.end) == name {
             return i;
         }
         i += 1;
@@ -149,13 +143,13 @@ fn end_placeholder(
     let n = pattern.count;
     if find_name(text, pattern, tokens::text_at(text, name)) < n {
         return Ended {
-            outcome: Outcome::Refused(Refusal::RepeatedName),
+            outcome: Err(Refusal::RepeatedName),
             pattern,
         };
     }
     if 8 <= n {
         return Ended {
-            outcome: Outcome::Refused(Refusal::NinthPlaceholder),
+            outcome: Err(Refusal::NinthPlaceholder),
             pattern,
         };
     }
@@ -171,7 +165,7 @@ fn end_placeholder(
     };
     read.count = n + 1;
     Ended {
-        outcome: Outcome::Accepted,
+        outcome: Ok(()),
         pattern: read,
     }
 }
@@ -195,11 +189,11 @@ fn take_named(
         let read = e.pattern;
         let outcome = e.outcome;
         return match outcome {
-            Outcome::Accepted => Parsed {
+            Ok(()) => Parsed {
                 step: Step::At(d),
                 pattern: read,
             },
-            Outcome::Refused(r) => Parsed {
+            Err(r) => Parsed {
                 step: Step::Refused(r),
                 pattern: read,
             },
@@ -298,7 +292,7 @@ fn refused(r: Refusal) -> ParsedPattern
     ensures eight { Eight result.pattern }
 {
     ParsedPattern {
-        outcome: Outcome::Refused(r),
+        outcome: Err(r),
         pattern: empty(),
     }
 }
@@ -315,7 +309,7 @@ fn parse_list(words: &[u32], text: &[u8]) -> ParsedPattern
         let d = skip_plain(words, text, c);
         if words.len() <= d.index {
             return ParsedPattern {
-                outcome: Outcome::Accepted,
+                outcome: Ok(()),
                 pattern,
             };
         }

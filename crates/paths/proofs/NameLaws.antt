@@ -77,5 +77,5 @@ unfolding contains_type_arguments find_node
 climbs_arguments = record { ask_none = refl; at_none = refl; at_token = λ i k s e r. refl; at_node = λ i k s e cs r. refl }
 
 pub climbs_names : (p : Placeholders) (code : List ℕ) → Climbs (λ cs. is_stand_in p (text_of code (name_in cs))) (contains_placeholder p code)
-unfolding contains_placeholder find_node first_token same_text
+unfolding contains_placeholder find_node first_token
 climbs_names p code = record { ask_none = rw (part_none code 0, by_none p.text [] p.vars refl) (le-ltb (length p.vars) _ (le_refl _)); at_none = refl; at_token = λ i k s e r. refl; at_node = λ i k s e cs r. refl }

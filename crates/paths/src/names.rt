@@ -8,14 +8,14 @@ ghost use Rattle.paths.specs.Names.{is_stand_in, segment_in, name_in, is_self, c
 
 use parsing::patterns::Pattern;
 use syntax::{accessors, parts};
-use words::{fields, texts};
+use words::{slices, texts};
 
 // The part of the first node of a kind among siblings; empty where there is none.
 fn find_part(part: &[u32], kind: u32) -> &[u32]
     ensures by_index { (i : ℕ) → (j : ℕ) × (elems j result.now ≡ find_node kind kind (elems i part.now)) }
     ensures result_in_bounds { length result.now ≤ length part.now }
 {
-    fields::tail(part, accessors::find_node(part, kind, kind) * 3)
+    slices::tail(part, accessors::find_node(part, kind, kind) * 3)
 }
 
 // The part of a path's name, from its children.
@@ -64,7 +64,7 @@ fn has_stand_in(path: &[u32], code: &[u8], text: &[u8], pattern: Pattern) -> boo
     ensures { (vs : List Var) (ns : List ℕ) → pattern ≡ pattern_of vs ns → (i : ℕ) → result ≡ is_stand_in (record { text = text.entry.now; vars = vs }) (text_of code.now (name_in (elems i path.now))) }
 {
     let range = accessors::range_of(name_in(path));
-    let name = texts::part_of(code, range.start, range.end);
+    let name = slices::part_of(code, range.start, range.end);
     if texts::has_stand_in_prefix(name) {
         return rust_code::find_stand_in(text, pattern, name) < pattern.count;
     }

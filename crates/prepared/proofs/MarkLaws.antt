@@ -15,7 +15,7 @@ use Rattle.words.proofs.TestLaws.{low_or}
 use Rattle.rust_code.specs.StandIns.{stand_in_index}
 use Rattle.syntax.specs.Trees.{Elems, elems, tree}
 use Rattle.syntax.specs.Accessors.{range_of, text_of, only_ident, element_at, by_itself}
-use Rattle.syntax.specs.declared.parts.Range.{Range}
+use Rattle.words.specs.declared.texts.Range.{Range}
 use Rattle.syntax.specs.Checks.{WellFormed}
 use Rattle.facts.specs.Facts.{facts_of, fact_index}
 use Rattle.paths.specs.Steps.{Side, resolution_at, path_place}

@@ -91,7 +91,7 @@ module _ (x : Side) (l : List ℕ) (e : ℕ) (w : WellFormed l) (h : length l / 
   no_call = claims-none e x none none (tree l) (λ t. absurd (false≢true t)) (λ t. absurd (false≢true t)) past
 
   pub no_placeholder_lem : placeholder_at x (tree l) e ≡ 8
-  unfolding only_ident same_text
+  unfolding only_ident
   no_placeholder_lem =
       let far : size (tree l) ≤ e = omega (arith, tree-size l w) in
       rw (tree-none l e w far, part_none x.code 0, by_none x.placeholders.text [] x.placeholders.vars refl, le-ltb (length x.placeholders.vars) _ (le_refl _))

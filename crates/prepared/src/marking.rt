@@ -15,7 +15,7 @@ ghost use Rattle.prepared.specs.Marks.{slot_mark, path_mark, function_mark, type
 use facts::index;
 use parsing::patterns::Pattern;
 use syntax::accessors;
-use words::{fields, texts};
+use words::{fields, slices};
 
 // One more than the placeholder that an element is; 0 where it is none.
 fn slot_mark(words: &[u32], code: &[u8], text: &[u8], pattern: Pattern, element: usize) -> u32
@@ -24,7 +24,7 @@ fn slot_mark(words: &[u32], code: &[u8], text: &[u8], pattern: Pattern, element:
 {
     let ident = accessors::only_ident(accessors::element(words, element));
     let at = accessors::range_of(ident);
-    let slot = rust_code::find_stand_in(text, pattern, texts::part_of(code, at.start, at.end));
+    let slot = rust_code::find_stand_in(text, pattern, slices::part_of(code, at.start, at.end));
     if slot < pattern.count {
         return (slot + 1) as u32;
     }

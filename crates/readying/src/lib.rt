@@ -4,7 +4,7 @@
 pub mod telling; // telling.rt: paths as ranges of the fact text
 
 ghost use Rattle.std.specs.Prelude.{◌≡◌, true, false, map, ◌≤◌, ◌<◌};
-ghost use Rattle.errors.specs.declared.Outcome.TheVariants.{Accepted};
+ghost use Rattle.errors.specs.Refusals.{ok};
 ghost use Rattle.syntax.specs.Trees.{tree};
 ghost use Rattle.fragments.specs.Pairs.{pair_of, pairs, is_present};
 ghost use Rattle.rules.specs.declared.stages.Stage.TheVariants.{TreesWithFacts};
@@ -102,7 +102,7 @@ pub fn make_ready(
     paths: &mut [u32],
     calls: &mut [u32],
 ) -> Template
-    requires bytes_value { (stage_outcome TreesWithFacts fact_bytes (pairs directory.now words.now bytes.now) ≡ Accepted) × (any (map pair_fails (pairs directory.now words.now bytes.now)) ≡ false) }
+    requires bytes_value { (stage_outcome TreesWithFacts fact_bytes (pairs directory.now words.now bytes.now) ≡ ok) × (any (map pair_fails (pairs directory.now words.now bytes.now)) ≡ false) }
     requires all_roomy { AllRoomy words.now index.old spare.old paths.old calls.old × (rule_form (found_rule (rules_of directory.now words.now bytes.now fact_bytes) number) < 5) }
     requires template_of { was.ready ≡ true → TemplateOf (rules_of directory.now words.now bytes.now fact_bytes) was.rule was.«module» was spare.old }
     ensures template_of_2 { TemplateOf (rules_of directory.now words.now bytes.now fact_bytes) number «module» result spare.new }

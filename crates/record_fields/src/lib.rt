@@ -8,7 +8,7 @@ ghost use Rattle.record_fields.specs.Fields.{pattern_name, has_name, is_named, i
 
 use matcher::{file_facts, token_matching};
 use syntax::{accessors, parts};
-use words::texts;
+use words::slices;
 
 // Of a field of the pattern: whether it has a name, whether no field before it has the same, and how many elements of the code are before the
 // last field of that name.
@@ -38,7 +38,7 @@ fn has_name(q: &[u32], rule: &[u8], kind: u32, name: &[u8]) -> bool
         return false;
     }
     let at = accessors::range_of(ident);
-    let own = texts::part_of(rule, at.start, at.end);
+    let own = slices::part_of(rule, at.start, at.end);
     token_matching::same_name(siblings::kind_of(ident), own, kind, name)
 }
 
@@ -105,7 +105,7 @@ fn is_field(
         return false;
     }
     let at = accessors::range_of(token);
-    let own = texts::part_of(file, at.start, at.end);
+    let own = slices::part_of(file, at.start, at.end);
     token_matching::same_name(kind, name, siblings::kind_of(token), own)
 }
 
@@ -158,7 +158,7 @@ fn is_asked(
         return true;
     }
     let at = accessors::range_of(token);
-    let own = texts::part_of(file, at.start, at.end);
+    let own = slices::part_of(file, at.start, at.end);
     is_named(ps, rule, siblings::kind_of(token), own)
 }
 
@@ -217,7 +217,7 @@ pub fn field_for(
         };
     }
     let at = accessors::range_of(ident);
-    let name = texts::part_of(rule, at.start, at.end);
+    let name = slices::part_of(rule, at.start, at.end);
     let kind = siblings::kind_of(ident);
     Field {
         named: true,

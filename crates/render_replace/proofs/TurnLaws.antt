@@ -10,8 +10,7 @@ use lib.ListN.{length, take, length-append}
 use lib.Seq.{length-take-le}
 use borrow.Author.Tests.{eq-eqb, ne_eqb, eqb-false}
 use Rattle.words.proofs.TestLaws.{same_or}
-use Rattle.words.specs.declared.buffer.Placed.{Placed}
-use Rattle.words.specs.declared.buffer.Placed.TheVariants as placed
+use Rattle.std.proofs.Common.{Option, Some, None}
 use Rattle.fragments.specs.Pairs.{pair_at, in_bytes, code_of}
 use Rattle.checks.specs.declared.Restriction.{Restriction}
 use Rattle.checks.specs.Given.{File, Rules}
@@ -190,7 +189,7 @@ ends_there rows k0 k at h = rw (eq-eqb k k0 h)
 
 -- row k has comments, or none
 module _ (q : Rules) (f : File) (range : Restriction) (rows links : List ℕ) (k0 k : ℕ) (out : List ℕ) (at : ℕ) (n : Next) where
-  pub ended_some : (out' : List ℕ) (at' : Placed) (number node : ℕ) → link_word links k 1 ≡ 1 → number ≡ field rows k 1 → node ≡ field rows k 0
+  pub ended_some : (out' : List ℕ) (at' : Option ℕ) (number node : ℕ) → link_word links k 1 ≡ 1 → number ≡ field rows k 1 → node ≡ field rows k 0
       → Lays out at (noted_comments q f range number node) out' at' → n ≡ after_placed rows k0 k at'
       → Ended rows k0 k out out' at (linked_comments q f range rows links k) n
   ended_some out' at' number node some e g lays goes =
@@ -206,7 +205,7 @@ module _ (q : Rules) (f : File) (range : Restriction) (rows links : List ℕ) (k
       → Ended rows k0 k out out at (linked_comments q f range rows links k) n
   ended-none none fits goes =
       let bs : linked_comments q f range rows links k ≡ [] = rw (ne_eqb (link_word links k 1) 1 none) in
-      record { placed = placed.At at; lays = subst (λ (l : List ℕ). Grows out out at at l) (sym bs) (grows_none out at fits); goes = goes }
+      record { placed = Some at; lays = subst (λ (l : List ℕ). Grows out out at at l) (sym bs) (grows_none out at fits); goes = goes }
 
 module _ {W : World} {h : Handed} {k0 k : ℕ} {frames out : List ℕ} {at : ℕ} (p : AtTurn W h k0 k frames out at) where
   -- a nested row has an owner
@@ -325,23 +324,23 @@ module _ {W : World} {h : Handed} {k0 k : ℕ} {frames out : List ℕ} {at : ℕ
           omega (arith, n, length-between b at' out' r.ends, r.begins, s.short, keeps.out_length)
 
       -- where rendering goes on then, and what it keeps
-      turn_goes : (out'' : List ℕ) (n : Next) (at'' : Placed) → Lays out' at' (W.comments k) out'' at'' → n ≡ after_placed h.rows k0 k at''
+      turn_goes : (out'' : List ℕ) (n : Next) (at'' : Option ℕ) → Lays out' at' (W.comments k) out'' at'' → n ≡ after_placed h.rows k0 k at''
           → TurnLeft W h k0 frames frames' out'' n
-      turn_goes out'' n (placed.At behind) g e = same_or k k0
+      turn_goes out'' n (Some behind) g e = same_or k k0
           (λ y. rw (e ∙ ends_there h.rows k0 k behind y) (ends_whole g y))
           (λ y. rw (e ∙ goes_back h.rows k0 k behind y) (goes_out g y))
-      turn_goes out'' n placed.Full s e = rw e (ends_full out'' (s.size ∙ keeps.out_length) (comments_burst s))
+      turn_goes out'' n None s e = rw e (ends_full out'' (s.size ∙ keeps.out_length) (comments_burst s))
 
       pub row_goes : {out'' : List ℕ} (n : Next) (bs : List ℕ) → bs ≡ W.comments k → Ended h.rows k0 k out' out'' at' bs n
           → TurnLeft W h k0 frames frames' out'' n
       row_goes {out''} n bs e d = turn_goes out'' n d.placed (subst (λ (l : List ℕ). Lays out' at' l out'' d.placed) e d.lays) d.goes
 
-      turn_falls : (t : Template) (spare : List ℕ) → TemplateIs h k t spare → (out'' : List ℕ) (n : Next) (at'' : Placed)
+      turn_falls : (t : Template) (spare : List ℕ) → TemplateIs h k t spare → (out'' : List ℕ) (n : Next) (at'' : Option ℕ)
           → Lays out' at' (W.comments k) out'' at'' → n ≡ after_placed h.rows k0 k at'' → TurnKeeps k0 k frames frames' out out'' n
-      turn_falls t spare c out'' n (placed.At behind) g e = same_or k k0
+      turn_falls t spare c out'' n (Some behind) g e = same_or k k0
           (λ y. let m = e ∙ ends_there h.rows k0 k behind y in rw m (turn_keeps (Ends (laid.At behind)) (before g) tt))
           (λ y. let m = e ∙ goes_back h.rows k0 k behind y in rw m (turn_keeps (Row (field h.rows k 2 - 3) behind) (before g) (goes_out_falls g t spare c y)))
-      turn_falls t spare c out'' n placed.Full s e =
+      turn_falls t spare c out'' n None s e =
           rw e (turn_keeps (Ends laid.NoRoom) (before_less (begin_of frames k) at' out' _ r.begins s.same ∙ keeps.out_before) tt)
 
       pub row_keeps : (t : Template) (spare : List ℕ) → TemplateIs h k t spare → {out'' : List ℕ} (n : Next) (bs : List ℕ)

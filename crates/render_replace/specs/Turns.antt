@@ -2,8 +2,7 @@
 -- function asks for, and what it leaves, over every world that the words show.
 -- Assumes nothing.
 use Rattle.std.specs.Prelude.{ℕ, ◌-◌, ◌≤◌, ◌<◌, ◌≡◌, cond, List, [], eqb, length, take}
-use Rattle.words.specs.declared.buffer.Placed.{Placed}
-use Rattle.words.specs.declared.buffer.Placed.TheVariants as placed
+use Rattle.std.specs.Prelude.{Option, Some, None}
 use Rattle.checks.specs.declared.Restriction.{Restriction}
 use Rattle.checks.specs.Given.{File, Rules}
 use Rattle.parses.specs.Parses.{parses_of, lookup}
@@ -66,13 +65,13 @@ abbrev pub linked_comments : Rules → File → Restriction → List ℕ → Lis
 linked_comments q f range rows links k =
     cond (eqb (link_word links k 1) 1) (noted_comments q f range (field rows k 1) (field rows k 0)) []
 
-abbrev pub after_placed : List ℕ → ℕ → ℕ → Placed → Next
-after_placed rows k0 k (placed.At at) = next_behind rows k0 k at
-after_placed rows k0 k placed.Full = Ends laid.NoRoom
+abbrev pub after_placed : List ℕ → ℕ → ℕ → Option ℕ → Next
+after_placed rows k0 k (Some at) = next_behind rows k0 k at
+after_placed rows k0 k None = Ends laid.NoRoom
 
 -- bytes are laid behind its text, and rendering goes on behind them; or there is no room for them
 pub record Ended (rows : List ℕ) (k0 k : ℕ) (out out' : List ℕ) (at : ℕ) (bs : List ℕ) (n : Next) : Type 0 where
-  pub placed : Placed
+  pub placed : Option ℕ
   pub lays : Lays out at bs out' placed
   pub goes : n ≡ after_placed rows k0 k placed
 

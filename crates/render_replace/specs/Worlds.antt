@@ -2,7 +2,7 @@
 -- three words a row: the place behind the last row that is nested in it, 1 where it has comments, and the module.
 -- Assumes nothing.
 use Rattle.std.specs.Prelude.{ℕ, ◌+◌, ◌*◌, ◌≤◌, ◌<◌, ◌≡◌, true, false, List, [], map, length, drop}
-use Rattle.errors.specs.declared.Outcome.TheVariants.{Accepted}
+use Rattle.errors.specs.Refusals.{ok}
 use Rattle.words.specs.Fields.{start_of, end_of}
 use Rattle.fragments.specs.Pairs.{pairs}
 use Rattle.rules.specs.declared.stages.Stage.TheVariants.{TreesWithFacts}
@@ -80,7 +80,7 @@ pub record Shown (W : World) (h : Handed) : Type 0 where
 
 -- the rules passed their checks, and every path that must resolve has a fact
 pub record Checked (q : Rules) : Type 0 where
-  pub trees : stage TreesWithFacts q ≡ Accepted
+  pub trees : stage TreesWithFacts q ≡ ok
   pub paths : any (map pair_fails (pairs q.directory q.words q.bytes)) ≡ false
 
 -- the tables that are lent are large enough

@@ -10,7 +10,6 @@ ghost use Rattle.render_replace.specs.Worlds.{noted_comments, Checked};
 use rule_match::Question;
 use rules::numbering;
 use rules::numbering::Found;
-use words::buffer::Placed;
 
 // Lays the comments of what is asked.
 pub fn put_comments(
@@ -30,7 +29,7 @@ pub fn put_comments(
     marks: &mut [u32],
     out: &mut [u8],
     at: usize,
-) -> Placed
+) -> Option<usize>
     requires checked { Checked (rules_of directory.now words.now bytes.now fact_bytes)
         × AllRoomy words.now index.old spare.old paths.old calls.old × MarksRoomy words.now marks.old }
     requires file_of { FileOf tree.now facts.now file_index.now
@@ -41,7 +40,7 @@ pub fn put_comments(
         out.new result }
 {
     match numbering::rule_at(directory, words, bytes, question.rule) {
-        Found::NoSuchRule => Placed::At(at),
+        Found::NoSuchRule => Some(at),
         Found::At(rule) => {
             let r = rule_match::match_pair(
                 directory,
@@ -64,9 +63,9 @@ pub fn put_comments(
             let noted = state.noted;
             if noted <= out.len() - at {
                 let behind = at + noted;
-                return Placed::At(behind);
+                return Some(behind);
             }
-            Placed::Full
+            None
         }
     }
 }

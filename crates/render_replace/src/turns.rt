@@ -23,7 +23,6 @@ use replacing::turns;
 use rerendering::Ended;
 use rows::{frames, matches};
 use rule_match::Question;
-use words::buffer::Placed;
 use words::fields;
 
 // Where a row's steps end: behind its text, but for its comments; where the text of a row nested in it begins; or by an event. Asked
@@ -270,14 +269,14 @@ fn end_row(
         );
         let none = readying::no_template();
         match placed {
-            Placed::At(behind) => {
+            Some(behind) => {
                 let next = go_back(rows, k0, k, behind);
                 return Turned {
                     next,
                     template: none,
                 };
             }
-            Placed::Full => {
+            None => {
                 return Turned {
                     next: Next::Ends(Laid::NoRoom),
                     template: none,

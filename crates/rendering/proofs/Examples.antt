@@ -250,5 +250,5 @@ outcomes_of xs room = map (λ (x : Item Text). x.what room) xs
 -- every text comes out in its room as the table says
 answered : map (λ (e : Example). outcomes_of (items e.tree (rendered e.setting) e.matches) e.room) examples
     ≡ map (λ (e : Example). e.outcome ∷ []) examples
-unfolding part same_text or_else element_at is_among lookup has_range requires before insert items ◌and_then◌ in_turn concat binding_at enclosed_each parts_of filled
+unfolding part or_else element_at is_among lookup has_range requires before insert items ◌and_then◌ in_turn concat binding_at enclosed_each parts_of filled
 answered = refl

@@ -9,8 +9,7 @@ use lib.ListN.{length, take, drop}
 use lib.Seq.{take-take}
 use Rattle.words.specs.Fields.{start_of, end_of}
 use Rattle.words.specs.Texts.{part}
-use Rattle.words.specs.declared.buffer.Placed.{Placed}
-use Rattle.words.specs.declared.buffer.Placed.TheVariants.{At, Full}
+use Rattle.std.proofs.Common.{Option, Some, None}
 use Rattle.words.proofs.TestLaws.{low_or, never}
 use Rattle.rendering.specs.Traces.{Trace, done, reach, ◌then◌}
 use Rattle.rendering.proofs.RoomLaws.{then_assoc}
@@ -31,12 +30,12 @@ slot_ended_lem : (frames frames' : List ℕ) (k slot at : ℕ) → slot < 8 → 
     → SlotEnds frames k slot at frames'
 slot_ended_lem frames frames' k slot at low h e = subst (SlotEnds frames k slot at) (sym e) (ends_slot frames k slot at low h)
 
-pub keeps-rest : (k slot at : ℕ) (frames frames' out out' bs : List ℕ) (r : Placed) → slot < 8 → 22 * k + 22 ≤ length frames → Lays out at bs out' r
+pub keeps-rest : (k slot at : ℕ) (frames frames' out out' bs : List ℕ) (r : Option ℕ) → slot < 8 → 22 * k + 22 ≤ length frames → Lays out at bs out' r
     → FramesThen frames (slot_ended frames k slot) frames' r → Keeps k frames frames' at out out'
-keeps-rest k slot at frames frames' out out' bs (At n) low h g e =
+keeps-rest k slot at frames frames' out out' bs (Some n) low h g e =
     let s = slot_ended_lem frames frames' k slot n low h e in
     record { frames_length = s.size; frames_before = s.before; begin = s.begin; out_length = g.size; out_before = g.same }
-keeps-rest k slot at frames frames' out out' bs Full low h s e = rw e (keeps_short k at frames out out' bs s)
+keeps-rest k slot at frames frames' out out' bs None low h s e = rw e (keeps_short k at frames out out' bs s)
 
 -- row k waits for row j
 record Enters (k j from at : ℕ) (frames frames' : List ℕ) : Type 0 where
@@ -50,9 +49,9 @@ enters_row k j from at frames frames' h l e =
     let p = passes_row frames k j from h in
     record { middle = row_passed frames k j from; passes = p; entered_at = subst (Entered (row_passed frames k j from) j at) (sym e) (enters (row_passed frames k j from) j at (omega (arith, p.size))) }
 
-pub keeps-before : (k j from at : ℕ) (frames frames' out out' bs : List ℕ) (r : Placed) → k < j → 22 * k + 22 ≤ length frames → 22 * j + 22 ≤ length frames
+pub keeps-before : (k j from at : ℕ) (frames frames' out out' bs : List ℕ) (r : Option ℕ) → k < j → 22 * k + 22 ≤ length frames → 22 * j + 22 ≤ length frames
     → Lays out at bs out' r → FramesThen frames (entered (row_passed frames k j from) j) frames' r → Keeps k frames frames' at out out'
-keeps-before k j from at frames frames' out out' bs (At n) m h l g e =
+keeps-before k j from at frames frames' out out' bs (Some n) m h l g e =
     let x = enters_row k j from n frames frames' h l e in let f = x.middle in let p = x.passes in let q = x.entered_at in
     record {
       frames_length = q.size ∙ p.size;
@@ -61,7 +60,7 @@ keeps-before k j from at frames frames' out out' bs (At n) m h l g e =
       out_length = g.size;
       out_before = g.same;
     }
-keeps-before k j from at frames frames' out out' bs Full m h l s e = rw e (keeps_short k at frames out out' bs s)
+keeps-before k j from at frames frames' out out' bs None m h l s e = rw e (keeps_short k at frames out out' bs s)
 
 -- ---- the next row
 
@@ -89,14 +88,14 @@ module _ {W : World} {rows : List ℕ} {end k : ℕ} {tree text frames out : Lis
           ∙ ap (λ (x : List ℕ). done (part text (from_of frames k) (binding_word x k s 2))) p.shows.reads
           ∙ ap (λ (x : ℕ). done (part text (from_of frames k) (binding_word rows k x 2))) (sym same_slot)
 
-      pub rest-left : end ≤ j → 22 * k + 22 ≤ length frames → (frames' out' : List ℕ) (r : Placed)
+      pub rest-left : end ≤ j → 22 * k + 22 ≤ length frames → (frames' out' : List ℕ) (r : Option ℕ)
           → Lays out at (part text (from_of frames k) (binding_word rows k slot 2)) out' r → FramesThen frames (slot_ended frames k slot) frames' r
           → CapturedLeft W k frames frames' out out' at (turn_behind r)
-      rest-left h m frames' out' (At n) g e =
+      rest-left h m frames' out' (Some n) g e =
           let s = slot_ended_lem frames frames' k p.filling.within.slot n p.filling.within.low m
           (e ∙ ap (λ (x : ℕ). slot_ended frames k x n) same_slot) in
           (slot_ends p.filling.within frames' out' n (part text (from_of frames k) (binding_word rows k slot 2)) (rest_is h) g s, s.passed, g.rise)
-      rest-left h m frames' out' Full s e = omega (arith, s.short, within_reaches p.filling.within, ap reach (rest_is h))
+      rest-left h m frames' out' None s e = omega (arith, s.short, within_reaches p.filling.within, ap reach (rest_is h))
 
       -- row j is the next
       module _ (low : j < end) (nested : is_nested rows k slot j ≡ true) where

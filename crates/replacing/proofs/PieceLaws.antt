@@ -7,8 +7,7 @@ use Prim.Native.Nat.{ℕ, ◌+◌, ◌-◌, ◌*◌, ◌≤◌, ◌<◌}
 use native.Mathlib.Omega.{arith}
 use borrow.Author.Tests.{eq-eqb, ne_eqb}
 use lib.ListN.{length}
-use Rattle.words.specs.declared.buffer.Placed.{Placed}
-use Rattle.words.specs.declared.buffer.Placed.TheVariants.{At, Full}
+use Rattle.std.proofs.Common.{Option, Some, None}
 use Rattle.rendering.specs.Events.{Event}
 use Rattle.rendering.specs.Texts.{Fragment, fixed, captured, prefix}
 use Rattle.rendering.specs.Traces.{Trace, done, reach, ◌then◌, fragment_trace, stopped}
@@ -46,12 +45,12 @@ keeps_short k at frames out out' bs s = record { frames_length = refl; frames_be
 pub piece_passed_lem : (frames frames' : List ℕ) (k : ℕ) → 22 * k + 22 ≤ length frames → frames' ≡ piece_passed frames k → PiecePasses frames k frames'
 piece_passed_lem frames frames' k h e = subst (PiecePasses frames k) (sym e) (passes_piece frames k h)
 
-pub keeps_piece : (k at : ℕ) (frames frames' out out' bs : List ℕ) (r : Placed) → 22 * k + 22 ≤ length frames → Lays out at bs out' r
+pub keeps_piece : (k at : ℕ) (frames frames' out out' bs : List ℕ) (r : Option ℕ) → 22 * k + 22 ≤ length frames → Lays out at bs out' r
     → FramesThen frames (λ _. piece_passed frames k) frames' r → Keeps k frames frames' at out out'
-keeps_piece k at frames frames' out out' bs (At n) h g e =
+keeps_piece k at frames frames' out out' bs (Some n) h g e =
     let p = piece_passed_lem frames frames' k h e in
     record { frames_length = p.size; frames_before = p.before; begin = p.others 0 refl; out_length = g.size; out_before = g.same }
-keeps_piece k at frames frames' out out' bs Full h s e = rw e (keeps_short k at frames out out' bs s)
+keeps_piece k at frames frames' out out' bs None h s e = rw e (keeps_short k at frames out out' bs s)
 
 -- a slot's text begins
 pub slot_begun_lem : (frames frames' : List ℕ) (k slot from at : ℕ) → 22 * k + 22 ≤ length frames → frames' ≡ slot_begun frames k slot from at
@@ -66,20 +65,20 @@ keeps-begun k slot from at at' frames frames' out out' bs g s =
 -- ---- a text is laid
 
 module _ {W : World} {rows : List ℕ} {k : ℕ} {f : Fragment} {frames out : List ℕ} {at : ℕ} (p : AtPiece W rows k f frames out at) where
-  pub text-left : (frames' out' bs : List ℕ) (r : Placed) → 22 * k + 22 ≤ length frames → fragment_trace (slot_hole W k) f ≡ done bs
+  pub text-left : (frames' out' bs : List ℕ) (r : Option ℕ) → 22 * k + 22 ≤ length frames → fragment_trace (slot_hole W k) f ≡ done bs
       → ((slot : ℕ) (b : Bool) → slot < 8 → f ≡ captured slot b → 0 < slot_start frames k slot)
       → Lays out at bs out' r → FramesThen frames (λ _. piece_passed frames k) frames' r → PieceLeft W k frames frames' out out' at (turn_behind r)
-  text-left frames' out' bs (At n) h t this g e =
+  text-left frames' out' bs (Some n) h t this g e =
       let q = piece_passed_lem frames frames' k h e in
       let none : filling_of frames' k ≡ 0 = q.others 2 refl ∙ p.passing.none in (
         (λ _. piece_passes p.passing f p.others p.here frames' out' n bs t g q this, λ l. absurd (omega (arith, none))),
         omega (arith, came-none frames k p.passing.none, came-none frames' k none, q.passed),
         g.rise,
       )
-  text-left frames' out' bs Full h t this s e = omega (arith, s.short, passing_reaches p.passing f p.others p.here, ap reach t)
+  text-left frames' out' bs None h t this s e = omega (arith, s.short, passing_reaches p.passing f p.others p.here, ap reach t)
 
 pub fixed_left : {W : World} {rows : List ℕ} {k : ℕ} {frames out : List ℕ} {at : ℕ} (bs : List ℕ) → AtPiece W rows k (fixed bs) frames out at
-    → (frames' out' : List ℕ) (r : Placed) → 22 * k + 22 ≤ length frames → Lays out at bs out' r → FramesThen frames (λ _. piece_passed frames k) frames' r
+    → (frames' out' : List ℕ) (r : Option ℕ) → 22 * k + 22 ≤ length frames → Lays out at bs out' r → FramesThen frames (λ _. piece_passed frames k) frames' r
     → PieceLeft W k frames frames' out out' at (turn_behind r)
 fixed_left bs p frames' out' r h l e =
     text-left p frames' out' bs r h refl (λ slot b m q. absurd (let z : ◌≡◌ {A = ℕ} 0 1 = cc in omega arith)) l e
@@ -140,7 +139,7 @@ module _ {W : World} {rows : List ℕ} {k slot : ℕ} {b : Bool} {frames out : L
         )
 
     -- its text was rendered before, and is laid once more
-    pub again-left : (frames' out₁ out' : List ℕ) (at₁ : ℕ) (r : Placed) → 22 * k + 22 ≤ length frames → slot < 8 → 0 < slot_start frames k slot
+    pub again-left : (frames' out₁ out' : List ℕ) (at₁ : ℕ) (r : Option ℕ) → 22 * k + 22 ≤ length frames → slot < 8 → 0 < slot_start frames k slot
         → Grows out out₁ at at₁ (prefix (binding_in rows k slot) b)
         → Lays out₁ at₁ (between (slot_start frames k slot - 1) (slot_end frames k slot) out₁) out' r
         → FramesThen frames (λ _. piece_passed frames k) frames' r → PieceLeft W k frames frames' out out' at (turn_behind r)

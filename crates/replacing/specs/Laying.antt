@@ -1,8 +1,7 @@
 -- What laying bytes leaves: they stand behind the place, or there is no room for them all, and what stands before the place is as it was.
 -- Assumes nothing.
 use Rattle.std.specs.Prelude.{ℕ, ◌+◌, ◌<◌, ◌≡◌, List, length, take}
-use Rattle.words.specs.declared.buffer.Placed.{Placed}
-use Rattle.words.specs.declared.buffer.Placed.TheVariants.{At, Full}
+use Rattle.std.specs.Prelude.{Option, Some, None}
 use Rattle.rows.specs.Frames.{Grows}
 
 -- 30: "the next byte .. does not fit"
@@ -11,11 +10,11 @@ pub record Short (out out' : List ℕ) (at : ℕ) (bs : List ℕ) : Type 0 where
   pub size : length out' ≡ length out
   pub same : take at out' ≡ take at out
 
-abbrev pub Lays : List ℕ → ℕ → List ℕ → List ℕ → Placed → Type 0
-Lays out at bs out' (At at') = Grows out out' at at' bs
-Lays out at bs out' Full = Short out out' at bs
+abbrev pub Lays : List ℕ → ℕ → List ℕ → List ℕ → Option ℕ → Type 0
+Lays out at bs out' (Some at') = Grows out out' at at' bs
+Lays out at bs out' None = Short out out' at bs
 
 -- and the frames then, by the place behind the bytes
-abbrev pub FramesThen : List ℕ → (ℕ → List ℕ) → List ℕ → Placed → Type 0
-FramesThen frames after frames' (At at') = frames' ≡ after at'
-FramesThen frames after frames' Full = frames' ≡ frames
+abbrev pub FramesThen : List ℕ → (ℕ → List ℕ) → List ℕ → Option ℕ → Type 0
+FramesThen frames after frames' (Some at') = frames' ≡ after at'
+FramesThen frames after frames' None = frames' ≡ frames

@@ -1,8 +1,7 @@
 -- The steps of rendering, over every world that the words show: what each asks for and what it leaves.
 -- Assumes nothing.
 use Rattle.std.specs.Prelude.{ℕ, ◌+◌, ◌*◌, ◌≤◌, ◌<◌, ◌≡◌, List, ◌∷◌, length, drop}
-use Rattle.words.specs.declared.buffer.Placed.{Placed}
-use Rattle.words.specs.declared.buffer.Placed.TheVariants.{At as Laid, Full}
+use Rattle.std.specs.Prelude.{Option, Some, None}
 use Rattle.words.specs.Fields.{start_of, end_of}
 use Rattle.rendering.specs.Events.{Event}
 use Rattle.rendering.specs.Texts.{Fragment}
@@ -14,9 +13,9 @@ use Rattle.replacing.specs.declared.pieces.Turn.{Turn}
 use Rattle.replacing.specs.declared.pieces.Turn.TheVariants.{At, Nested, Unbound, NoRoom}
 
 -- where rendering goes on behind what was laid
-abbrev pub turn_behind : Placed → Turn
-turn_behind (Laid at) = At at
-turn_behind Full = NoRoom
+abbrev pub turn_behind : Option ℕ → Turn
+turn_behind (Some at) = At at
+turn_behind None = NoRoom
 
 -- ---- a fragment
 

@@ -11,8 +11,7 @@ ghost use Rattle.replacing.specs.Steps.{FramesFor, AtCaptured, CapturedLeft};
 use crate::pieces;
 use crate::pieces::Turn;
 use rows::{frames, matches};
-use words::buffer::Placed;
-use words::{buffer, fields, texts};
+use words::{buffer, fields, slices};
 
 // The rest of a captured text, behind the last row that is nested in it.
 fn put_rest(
@@ -23,7 +22,7 @@ fn put_rest(
     text: &[u8],
     out: &mut [u8],
     at: usize,
-) -> Placed
+) -> Option<usize>
     requires k_bound { (k ≤ 1023) × (slot < 8) × (22 * k + 22 ≤ length frames.old) × (passed_of frames.old k < 16384) }
     requires k_bound_2 { (origin_of frames.old k ≤ 1048576) × (length out.old ≤ 1048576) }
     ensures lays { Lays out.old at (part text.now (from_of frames.old k) (binding_word rows.now k slot 2)) out.new result }
@@ -31,12 +30,12 @@ fn put_rest(
 {
     let from = frames::word(frames, k, 4);
     let end = matches::binding(rows, k, slot, 2) as usize;
-    match buffer::put(out, at, texts::part_of(text, from, end)) {
-        Placed::At(behind) => {
+    match buffer::put(out, at, slices::part_of(text, from, end)) {
+        Some(behind) => {
             frames::end_slot(frames, k, slot, behind);
-            Placed::At(behind)
+            Some(behind)
         }
-        Placed::Full => Placed::Full,
+        None => None,
     }
 }
 
@@ -50,20 +49,20 @@ fn put_before(
     text: &[u8],
     out: &mut [u8],
     at: usize,
-) -> Placed
+) -> Option<usize>
     requires { (k ≤ 1023) × (22 * k + 22 ≤ length frames.old) × (j ≤ 1023) × (22 * j + 22 ≤ length frames.old) × (length out.old ≤ 1048576) }
     ensures lays { Lays out.old at (part text.now (from_of frames.old k) (start_of (drop (3 * field rows.now j 0) tree.now))) out.new result }
     ensures frames_then { FramesThen frames.old (entered (row_passed frames.old k j (end_of (drop (3 * field rows.now j 0) tree.now))) j) frames.new result }
 {
-    let element = fields::tail(tree, 3 * (matches::word(rows, j, 0) as usize));
+    let element = slices::tail(tree, 3 * (matches::word(rows, j, 0) as usize));
     let from = frames::word(frames, k, 4);
-    match buffer::put(out, at, texts::part_of(text, from, fields::start(element))) {
-        Placed::At(behind) => {
+    match buffer::put(out, at, slices::part_of(text, from, fields::start(element))) {
+        Some(behind) => {
             frames::pass_row(frames, k, j, fields::end(element));
             frames::enter(frames, j, behind);
-            Placed::At(behind)
+            Some(behind)
         }
-        Placed::Full => Placed::Full,
+        None => None,
     }
 }
 
@@ -88,8 +87,8 @@ pub fn put_captured(
     let j = matches::next_nested(rows, k, slot, next, end);
     if j < end {
         match put_before(rows, frames, k, j, tree, text, out, at) {
-            Placed::At(behind) => return Turn::Nested(j, behind),
-            Placed::Full => return Turn::NoRoom,
+            Some(behind) => return Turn::Nested(j, behind),
+            None => return Turn::NoRoom,
         }
     }
     pieces::turn_behind(put_rest(rows, frames, k, slot, text, out, at))

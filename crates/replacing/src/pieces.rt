@@ -10,7 +10,6 @@ ghost use Rattle.replacing.specs.Steps.{turn_behind, AtPiece, PieceLeft};
 
 use rows::{frames, matches, told};
 use words::buffer;
-use words::buffer::Placed;
 
 // Where rendering goes on: at a place in the same row, or in a row that is nested in it, whose text begins at a place; or the event that ends it.
 #[derive(Clone, Copy)]
@@ -22,23 +21,23 @@ pub enum Turn {
 }
 
 // Lays so many stars.
-fn put_stars(out: &mut [u8], at: usize, n: usize) -> Placed
+fn put_stars(out: &mut [u8], at: usize, n: usize) -> Option<usize>
     requires { at ≤ length out.old }
     ensures { Lays out.old at (replicate n 42) out.new result }
 {
     if out.len() - at < n {
-        return Placed::Full;
+        return None;
     }
     let mut i = 0;
     while i < n {
         out[at + i] = 42;
         i += 1;
     }
-    Placed::At(at + n)
+    Some(at + n)
 }
 
 // Lays `&`, `&mut ` or nothing.
-fn put_reference(out: &mut [u8], at: usize, kind: u32) -> Placed
+fn put_reference(out: &mut [u8], at: usize, kind: u32) -> Option<usize>
     requires { at ≤ length out.old }
     ensures { Lays out.old at (reference kind) out.new result }
 {
@@ -48,7 +47,7 @@ fn put_reference(out: &mut [u8], at: usize, kind: u32) -> Placed
     if kind == 2 {
         return buffer::put(out, at, b"&mut ");
     }
-    Placed::At(at)
+    Some(at)
 }
 
 // Lays the prefix of a placeholder.
@@ -59,23 +58,23 @@ fn put_prefix(
     receiver: bool,
     out: &mut [u8],
     at: usize,
-) -> Placed
+) -> Option<usize>
     requires { (k ≤ 1024) × (slot < 8) × (at ≤ length out.old) }
     ensures { Lays out.old at (prefix (binding_in rows.now k slot) receiver) out.new result }
 {
     if receiver {
-        return Placed::At(at);
+        return Some(at);
     }
     let kind = matches::binding(rows, k, slot, 4);
     let stars = matches::binding(rows, k, slot, 3) as usize;
     match put_reference(out, at, kind) {
-        Placed::At(behind) => put_stars(out, behind, stars),
-        Placed::Full => Placed::Full,
+        Some(behind) => put_stars(out, behind, stars),
+        None => None,
     }
 }
 
 // Lays a slot's text once more.
-fn copy_slot(frames: &mut [u32], k: usize, slot: usize, out: &mut [u8], at: usize) -> Placed
+fn copy_slot(frames: &mut [u32], k: usize, slot: usize, out: &mut [u8], at: usize) -> Option<usize>
     requires k_bound { (k ≤ 1023) × (slot < 8) × (22 * k + 22 ≤ length frames.old) × (passed_of frames.old k < 16384) }
     requires slot_nonzero { (0 < slot_start frames.old k slot) × (slot_start frames.old k slot ≤ slot_end frames.old k slot + 1) × (slot_end frames.old k slot ≤ at) × (at ≤ length out.old) }
     ensures lays { Lays out.old at (between (slot_start frames.old k slot - 1) (slot_end frames.old k slot) out.old) out.new result }
@@ -84,20 +83,20 @@ fn copy_slot(frames: &mut [u32], k: usize, slot: usize, out: &mut [u8], at: usiz
     let from = frames::word(frames, k, 6 + slot) - 1;
     let n = frames::word(frames, k, 14 + slot) - from;
     if out.len() - at < n {
-        return Placed::Full;
+        return None;
     }
     captures::lay_again(out, from, n, at);
     frames::pass_piece(frames, k);
-    Placed::At(at + n)
+    Some(at + n)
 }
 
 // Where rendering goes on behind what was laid.
-pub fn turn_behind(p: Placed) -> Turn
+pub fn turn_behind(p: Option<usize>) -> Turn
     ensures { result ≡ turn_behind p }
 {
     match p {
-        Placed::At(at) => Turn::At(at),
-        Placed::Full => Turn::NoRoom,
+        Some(at) => Turn::At(at),
+        None => Turn::NoRoom,
     }
 }
 
@@ -120,7 +119,7 @@ fn put_hole(
         return Turn::Unbound;
     }
     match put_prefix(rows, k, slot, receiver, out, at) {
-        Placed::At(behind) => {
+        Some(behind) => {
             if 0 < frames::word(frames, k, 6 + slot) {
                 return turn_behind(copy_slot(frames, k, slot, out, behind));
             }
@@ -128,22 +127,22 @@ fn put_hole(
             frames::begin_slot(frames, k, slot, from, behind);
             Turn::At(behind)
         }
-        Placed::Full => Turn::NoRoom,
+        None => Turn::NoRoom,
     }
 }
 
 // Bytes.
-fn put_text(frames: &mut [u32], k: usize, text: &[u8], out: &mut [u8], at: usize) -> Placed
+fn put_text(frames: &mut [u32], k: usize, text: &[u8], out: &mut [u8], at: usize) -> Option<usize>
     requires { (k ≤ 1023) × (22 * k + 22 ≤ length frames.old) × (passed_of frames.old k < 16384) }
     ensures lays { Lays out.old at text.now out.new result }
     ensures frames_then { FramesThen frames.old (λ _. piece_passed frames.old k) frames.new result }
 {
     match buffer::put(out, at, text) {
-        Placed::At(behind) => {
+        Some(behind) => {
             frames::pass_piece(frames, k);
-            Placed::At(behind)
+            Some(behind)
         }
-        Placed::Full => Placed::Full,
+        None => None,
     }
 }
 

@@ -3,8 +3,7 @@ use edits::EditedNumbers;
 use exports::match_answers::{BoundPlaceholder, MatchedNode};
 use exports::rule_answers::{BuiltRules, ResolvedElement};
 use exports::{NamedPlaceholder, RawCode, ReadTokens};
-use words::buffer::Placed;
-use words::{buffer, texts};
+use words::buffer;
 
 // The four lowest bytes of a number.
 fn low(n: usize) -> u32 {
@@ -14,8 +13,8 @@ fn low(n: usize) -> u32 {
 // Lays a word's bytes: the place behind them.
 fn lay_word(out: &mut [u8], at: usize, word: u32) -> usize {
     match buffer::put_word(out, at, word) {
-        Placed::At(next) => next,
-        Placed::Full => at,
+        Some(next) => next,
+        None => at,
     }
 }
 
@@ -54,8 +53,8 @@ pub fn is_tokens(answer: ReadTokens, expected: &[u8]) -> bool {
     lay_tokens(&mut found, answer);
     let mut wanted = [0u8; 158];
     match buffer::put(&mut wanted, 0, expected) {
-        Placed::At(_) => texts::same_text(&found, &wanted),
-        Placed::Full => false,
+        Some(_) => &found == &wanted,
+        None => false,
     }
 }
 
@@ -65,8 +64,8 @@ pub fn is_number(n: u32, expected: &[u8]) -> bool {
     lay(&mut found, 0, n as usize);
     let mut wanted = [0u8; 4];
     match buffer::put(&mut wanted, 0, expected) {
-        Placed::At(_) => texts::same_text(&found, &wanted),
-        Placed::Full => false,
+        Some(_) => &found == &wanted,
+        None => false,
     }
 }
 
@@ -77,8 +76,8 @@ pub fn is_code(answer: RawCode, expected: &[u8]) -> bool {
     lay(&mut found, a, answer.length);
     let mut wanted = [0u8; 8];
     match buffer::put(&mut wanted, 0, expected) {
-        Placed::At(_) => texts::same_text(&found, &wanted),
-        Placed::Full => false,
+        Some(_) => &found == &wanted,
+        None => false,
     }
 }
 
@@ -90,8 +89,8 @@ pub fn is_buffer(out: &[u8], expected: &[u8]) -> bool {
         return false;
     }
     match buffer::put(&mut wanted, 0, expected) {
-        Placed::At(_) => texts::same_text(out, &wanted[0..n]),
-        Placed::Full => false,
+        Some(_) => out == &wanted[0..n],
+        None => false,
     }
 }
 
@@ -110,8 +109,8 @@ fn is_words(words: &[u32], expected: &[u8]) -> bool {
     lay_words(&mut found, 0, words);
     let mut wanted = [0u8; 36];
     match buffer::put(&mut wanted, 0, expected) {
-        Placed::At(_) => texts::same_text(&found, &wanted),
-        Placed::Full => false,
+        Some(_) => &found == &wanted,
+        None => false,
     }
 }
 
@@ -176,7 +175,7 @@ pub fn is_matched(answer: MatchedNode, expected: &[u8]) -> bool {
     lay_bindings(&mut found, next, answer);
     let mut wanted = [0u8; 172];
     match buffer::put(&mut wanted, 0, expected) {
-        Placed::At(_) => texts::same_text(&found, &wanted),
-        Placed::Full => false,
+        Some(_) => &found == &wanted,
+        None => false,
     }
 }

@@ -12,7 +12,7 @@ ghost use Rattle.replaying.specs.Records.{number_of, TakesRecord};
 
 use std::io;
 use std::io::{ErrorKind, Read};
-use words::texts;
+use words::slices;
 
 // A byte as a number.
 fn wide(b: u8) -> usize
@@ -45,7 +45,7 @@ pub fn from(s: &[u8], at: usize) -> &[u8] {
 
 // The first of some parts, empty where it is cut off.
 fn first(parts: &[u8]) -> &[u8] {
-    texts::part_of(parts, 4, 4 + number(parts))
+    slices::part_of(parts, 4, 4 + number(parts))
 }
 
 // The parts behind the first.

@@ -11,7 +11,7 @@ ghost use Rattle.rerendering.specs.Parts.{part_word, part_words, measured_parts,
 ghost use Rattle.rerendering.specs.Endings.{PutAgain, Shows, Answers};
 
 use rows::{frames, matches, told};
-use words::fields;
+use words::slices;
 
 // The place behind the text, or the event that ends the job.
 #[derive(Clone, Copy)]
@@ -152,7 +152,7 @@ pub fn end_rendering<'a>(
             return Ended::At(at);
         }
         let first = found.at;
-        let ranges = fields::part_of(parses, first, first + 2 * found.count);
+        let ranges = slices::part_of(parses, first, first + 2 * found.count);
         let n = table.len();
         return render_again(
             rows,

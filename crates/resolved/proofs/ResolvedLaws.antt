@@ -3,8 +3,8 @@
 use mathlib.Core.Path.{◌≡◌, refl, sym, ◌∙◌}
 use mathlib.Core.Bool.{Bool, true, false}
 use mathlib.Core.List.{List, [], ◌∷◌, ◌++◌, map}
-use Rattle.errors.specs.declared.Outcome.{Outcome}
-use Rattle.errors.specs.declared.Outcome.TheVariants.{Accepted, Refused}
+use Rattle.std.proofs.Common.{Ok, Err}
+use Rattle.errors.specs.Refusals.{Outcome, ok, err}
 use Rattle.errors.specs.declared.Refusal.{Refusal}
 use Rattle.errors.specs.declared.Refusal.TheVariants.{UnresolvedPath}
 use Rattle.errors.specs.Refusals.{first_of, in_turn}
@@ -23,30 +23,30 @@ abbrev any_fails : Rules → Bool
 any_fails q = any (map pair_fails (pairs q.directory q.words q.bytes))
 
 module _ (q : Rules) (f : File) where
-  pub given_refuses : (r : Refusal) → given_outcome q f ≡ Refused r → Refused r ≡ in_turn (to_resolve q f)
+  pub given_refuses : (r : Refusal) → given_outcome q f ≡ err r → err r ≡ in_turn (to_resolve q f)
   given_refuses r h = sym (turn_refuses _ _ r h)
 
-  module _ (h : given_outcome q f ≡ Accepted) where
+  module _ (h : given_outcome q f ≡ ok) where
     paths_decide : in_turn (to_resolve q f) ≡ paths_outcome (pairs q.directory q.words q.bytes)
     paths_decide = turn_passes _ _ h ∙ turn_last _
 
-    pub path_fails : any_fails q ≡ true → Refused UnresolvedPath ≡ in_turn (to_resolve q f)
+    pub path_fails : any_fails q ≡ true → err UnresolvedPath ≡ in_turn (to_resolve q f)
     unfolding first_of
     path_fails e = sym (paths_decide ∙ rw e)
 
-    pub all_resolve : any_fails q ≡ false → Accepted ≡ in_turn (to_resolve q f)
+    pub all_resolve : any_fails q ≡ false → ok ≡ in_turn (to_resolve q f)
     unfolding first_of
     all_resolve e = sym (paths_decide ∙ rw e)
 
   -- where they pass
-  module _ (h : in_turn (to_resolve q f) ≡ Accepted) where
-    given_passed : given_outcome q f ≡ Accepted
+  module _ (h : in_turn (to_resolve q f) ≡ ok) where
+    given_passed : given_outcome q f ≡ ok
     given_passed = (turn_both _ _ h).0
 
-    pub trees_passed : stage TreesWithFacts q ≡ Accepted
+    pub trees_passed : stage TreesWithFacts q ≡ ok
     trees_passed = trees_accepted q f given_passed
 
-    pub forms_passed : stage Forms q ≡ Accepted
+    pub forms_passed : stage Forms q ≡ ok
     forms_passed = (turn_both _ _ (turn_both _ _ (turn_both _ _ (turn_both _ _ given_passed).1).1).1).0
 
     pub none_fails : any_fails q ≡ false
@@ -57,12 +57,12 @@ module _ (q : Rules) (f : File) where
         by false e = e
 
 -- stages behind others are looked at where these pass
-pub turns_pass : (os more : List Outcome) → in_turn os ≡ Accepted → in_turn (os ++ more) ≡ in_turn more
+pub turns_pass : (os more : List Outcome) → in_turn os ≡ ok → in_turn (os ++ more) ≡ in_turn more
 turns_pass [] more h = refl
 turns_pass (o ∷ os) more h = let t = turn_both o os h in turn_passes o (os ++ more) t.0 ∙ turns_pass os more t.1
 
-pub turns_refuse : (os more : List Outcome) (r : Refusal) → in_turn os ≡ Refused r → in_turn (os ++ more) ≡ Refused r
+pub turns_refuse : (os more : List Outcome) (r : Refusal) → in_turn os ≡ err r → in_turn (os ++ more) ≡ err r
 unfolding in_turn
 turns_refuse [] more r h = absurd (refused_not (sym h))
-turns_refuse (Accepted ∷ os) more r h = turns_refuse os more r h
-turns_refuse (Refused s ∷ os) more r h = h
+turns_refuse ((Ok tt) ∷ os) more r h = turns_refuse os more r h
+turns_refuse (Err s ∷ os) more r h = h

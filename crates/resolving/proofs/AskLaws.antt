@@ -6,7 +6,7 @@ use mathlib.Core.List.{List, map}
 use Prim.Native.Nat.{ℕ, ◌-◌, ◌/◌, ◌≤◌, ◌<◌}
 use lib.ListN.{length, get_or}
 use borrow.Author.Tests.{lt-ltb, le-ltb}
-use Rattle.errors.specs.declared.Outcome.TheVariants.{Accepted, Refused}
+use Rattle.errors.specs.Refusals.{ok, err}
 use Rattle.errors.specs.declared.Refusal.{Refusal}
 use Rattle.errors.specs.declared.Refusal.TheVariants.{UnresolvedPath}
 use Rattle.errors.specs.Refusals.{first_of}
@@ -40,13 +40,13 @@ module _ (p : Pair) (side form e : ℕ) where
 
 -- the stages of the operation
 module _ (m : ℕ) (d w b : List ℕ) where
-  pub resolve_refused : (r : Refusal) → rules_outcome TreesWithFacts m d w b ≡ Refused r → resolve_outcome m d w b ≡ Refused r
+  pub resolve_refused : (r : Refusal) → rules_outcome TreesWithFacts m d w b ≡ err r → resolve_outcome m d w b ≡ err r
   resolve_refused r h = turn_refuses _ _ r h
 
-  pub resolve_passes : rules_outcome TreesWithFacts m d w b ≡ Accepted → any (map pair_fails (pairs d w b)) ≡ false → resolve_outcome m d w b ≡ Accepted
+  pub resolve_passes : rules_outcome TreesWithFacts m d w b ≡ ok → any (map pair_fails (pairs d w b)) ≡ false → resolve_outcome m d w b ≡ ok
   unfolding first_of
   resolve_passes h g = turn_passes _ _ h ∙ turn_last (paths_outcome (pairs d w b)) ∙ rw g
 
-  pub resolve_fails : rules_outcome TreesWithFacts m d w b ≡ Accepted → any (map pair_fails (pairs d w b)) ≡ true → resolve_outcome m d w b ≡ Refused UnresolvedPath
+  pub resolve_fails : rules_outcome TreesWithFacts m d w b ≡ ok → any (map pair_fails (pairs d w b)) ≡ true → resolve_outcome m d w b ≡ err UnresolvedPath
   unfolding first_of
   resolve_fails h g = turn_passes _ _ h ∙ turn_last (paths_outcome (pairs d w b)) ∙ rw g

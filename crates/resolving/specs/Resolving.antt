@@ -3,8 +3,8 @@
 -- it is a call that UFCS may match, its function and its type or none, and whether that side contains `self`.
 -- Assumes nothing.
 use Rattle.std.specs.Prelude.{ℕ, ◌/◌, false, cond, List, [], ◌∷◌, eqb, ltb, length}
-use Rattle.errors.specs.declared.Outcome.{Outcome}
-use Rattle.errors.specs.declared.Outcome.TheVariants.{Accepted, Refused}
+use Rattle.std.specs.Prelude.{Ok, Err}
+use Rattle.errors.specs.Refusals.{Outcome}
 use Rattle.errors.specs.Refusals.{in_turn}
 use Rattle.syntax.specs.Trees.{tree}
 use Rattle.syntax.specs.Accessors.{has_element}
@@ -55,8 +55,8 @@ resolve_outcome m directory words bytes =
     in_turn (rules_outcome TreesWithFacts m directory words bytes ∷ paths_outcome (pairs directory words bytes) ∷ [])
 
 abbrev pub resolved_by : Outcome → Resolved → Resolved
-resolved_by (Refused r) answer = resolved.Refused r
-resolved_by Accepted answer = answer
+resolved_by (Err r) answer = resolved.Refused r
+resolved_by (Ok tt) answer = answer
 
 abbrev pub resolved_element : ℕ → List ℕ → List ℕ → List ℕ → ℕ → ℕ → ℕ → Resolved
 resolved_element m directory words bytes number side e =

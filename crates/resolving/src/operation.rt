@@ -1,6 +1,6 @@
 // The operation "Resolving".
 ghost use Rattle.std.specs.Prelude.{◌≡◌, false, map, ◌≤◌, length};
-ghost use Rattle.errors.specs.declared.Outcome.TheVariants.{Accepted};
+ghost use Rattle.errors.specs.Refusals.{ok};
 ghost use Rattle.fragments.specs.Pairs.{pairs};
 ghost use Rattle.rules.specs.declared.stages.Stage.TheVariants.{TreesWithFacts};
 ghost use Rattle.rules.specs.Forms.{any};
@@ -12,7 +12,7 @@ ghost use Rattle.rule_paths.specs.Needs.{AllRoomy};
 
 use crate::asking;
 use crate::asking::Resolved;
-use errors::{Outcome, Refusal};
+use errors::Refusal;
 use rules::numbering::Found;
 use rules::stages::Stage;
 use rules::{numbering, stages};
@@ -31,7 +31,7 @@ fn ask(
     paths: &mut [u32],
     calls: &mut [u32],
 ) -> Resolved
-    requires bytes_value { (stage_outcome TreesWithFacts fact_bytes (pairs directory.now words.now bytes.now) ≡ Accepted) × (any (map pair_fails (pairs directory.now words.now bytes.now)) ≡ false) }
+    requires bytes_value { (stage_outcome TreesWithFacts fact_bytes (pairs directory.now words.now bytes.now) ≡ ok) × (any (map pair_fails (pairs directory.now words.now bytes.now)) ≡ false) }
     requires all_roomy { AllRoomy words.now index.old spare.old paths.old calls.old }
     ensures { result ≡ in_found directory.now words.now bytes.now (rule_at (rules (pairs directory.now words.now bytes.now)) number) side element }
 {
@@ -61,7 +61,7 @@ fn resolve_in(
     ensures { result ≡ resolved_element fact_bytes directory.now words.now bytes.now number side element }
 {
     match stages::check_rules(Stage::TreesWithFacts, directory, words, bytes, fact_bytes) {
-        Outcome::Accepted => {
+        Ok(()) => {
             if rule_paths::resolve_pairs(
                 directory, words, bytes, fact_bytes, index, spare, paths, calls,
             ) {
@@ -72,7 +72,7 @@ fn resolve_in(
             }
             Resolved::Refused(Refusal::UnresolvedPath)
         }
-        Outcome::Refused(r) => Resolved::Refused(r),
+        Err(r) => Resolved::Refused(r),
     }
 }
 

@@ -2,7 +2,7 @@
 ghost use Rattle.std.specs.Prelude.{◌≡◌, ◌<◌};
 ghost use Rattle.rows.specs.Told.{is_fixed, told_text, told_slot, told_receiver};
 
-use words::texts;
+use words::slices;
 
 // Whether it is bytes, and not a placeholder.
 pub fn is_fixed(n: u64) -> bool
@@ -21,9 +21,9 @@ pub fn text_of<'a>(code: &'a [u8], fact_text: &'a [u8], n: u64) -> &'a [u8]
     let start = (n % 0x1000_0000) as usize;
     let end_or_length = (n / 0x1000_0000 % 0x1000_0000) as usize;
     if n < 0x100_0000_0000_0000 {
-        return texts::part_of(code, start, end_or_length);
+        return slices::part_of(code, start, end_or_length);
     }
-    texts::part_of(fact_text, start, start + end_or_length)
+    slices::part_of(fact_text, start, start + end_or_length)
 }
 
 // The slot of a placeholder.

@@ -6,7 +6,7 @@ use mathlib.Core.List.{List, [], ◌∷◌, map}
 use Prim.Native.Nat.{ℕ, zero, suc, ◌+◌, ◌-◌, ◌≤◌, ◌<◌}
 use native.Mathlib.Omega.{arith}
 use lib.ListN.{length, drop, get_or}
-use Rattle.errors.specs.declared.Outcome.TheVariants.{Accepted}
+use Rattle.errors.specs.Refusals.{ok}
 use Rattle.words.proofs.TestLaws.{or_neither, low_or}
 use Rattle.syntax.specs.Trees.{tree}
 use Rattle.fragments.specs.Directory.{counted, row_count}
@@ -49,7 +49,7 @@ module _ (p : Pair) (r : Rule) (l : Left p r) where
   template_good = rw l.tree (or_neither (template_fails p r.form (template_tree p r.form)) (tree_fails p 0 r.form) rule_good).0
 
 -- what holds of all pairs holds of the pair of a number
-pub stage_at : (stage : Stage) (m n j : ℕ) (d w b : List ℕ) → stage_outcome stage m (pairs_of n d w b) ≡ Accepted → j < n → pair_stage stage m (pair_at j d w b) ≡ Accepted
+pub stage_at : (stage : Stage) (m n j : ℕ) (d w b : List ℕ) → stage_outcome stage m (pairs_of n d w b) ≡ ok → j < n → pair_stage stage m (pair_at j d w b) ≡ ok
 stage_at stage m zero j d w b h k = absurd (omega arith)
 stage_at stage m (suc n) zero d w b h k = rw (pair_here d w b) (stage-both stage m (suc n) d w b (omega arith) h).0
 stage_at stage m (suc n) (suc j) d w b h k =
@@ -154,5 +154,5 @@ module _ (d w b : List ℕ) (q : ℕ) (r : Rule) (h : rule_at (rules (pairs d w 
   pub left-rule : any (map pair_fails (pairs d w b)) ≡ false → Left (pair_at r.pair d w b) r
   left-rule g = record { low = found.low; left = rw same at found.left; tree = rw same at found.tree; good = good_at (row_count d) r.pair d w b g within }
 
-  pub passed_rule : (m : ℕ) → stage_outcome TreesWithFacts m (pairs d w b) ≡ Accepted → Passed (pair_at r.pair d w b)
+  pub passed_rule : (m : ℕ) → stage_outcome TreesWithFacts m (pairs d w b) ≡ ok → Passed (pair_at r.pair d w b)
   passed_rule m g = record { bytes = m; trees = stage_at TreesWithFacts m (row_count d) r.pair d w b g within }

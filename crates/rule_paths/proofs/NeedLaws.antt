@@ -8,8 +8,7 @@ use native.Mathlib.Omega.{arith}
 use lib.Dec.{eqb, leb}
 use lib.ListN.{length, take, drop, length-take, length-drop}
 use borrow.Author.Tests.{eq-eqb}
-use Rattle.errors.specs.declared.Outcome.{Outcome}
-use Rattle.errors.specs.declared.Outcome.TheVariants.{Accepted}
+use Rattle.errors.specs.Refusals.{Outcome, ok}
 use Rattle.errors.specs.Refusals.{lowest_of, lowest}
 use Rattle.errors.proofs.Laws.{both_pass}
 use Rattle.words.specs.Texts.{part}
@@ -30,32 +29,32 @@ use Rattle.rule_paths.specs.RulePaths.{vars_of, pattern_of, side_at}
 use Rattle.rule_paths.specs.Needs.{Passed, Roomy}
 
 -- all five pass where the lowest does
-five_pass : (f : ℕ → Outcome) → lowest (five f) ≡ Accepted → (form : ℕ) → form ≤ 4 → f form ≡ Accepted
+five_pass : (f : ℕ → Outcome) → lowest (five f) ≡ ok → (form : ℕ) → form ≤ 4 → f form ≡ ok
 unfolding lowest
 five_pass f h form k = go form k
   where
-    a1 : lowest_of (f 1) (lowest_of (f 2) (lowest_of (f 3) (lowest_of (f 4) Accepted))) ≡ Accepted
-    a1 = (both_pass (f 0) (lowest_of (f 1) (lowest_of (f 2) (lowest_of (f 3) (lowest_of (f 4) Accepted)))) h).1
+    a1 : lowest_of (f 1) (lowest_of (f 2) (lowest_of (f 3) (lowest_of (f 4) ok))) ≡ ok
+    a1 = (both_pass (f 0) (lowest_of (f 1) (lowest_of (f 2) (lowest_of (f 3) (lowest_of (f 4) ok)))) h).1
 
-    a2 : lowest_of (f 2) (lowest_of (f 3) (lowest_of (f 4) Accepted)) ≡ Accepted
-    a2 = (both_pass (f 1) (lowest_of (f 2) (lowest_of (f 3) (lowest_of (f 4) Accepted))) a1).1
+    a2 : lowest_of (f 2) (lowest_of (f 3) (lowest_of (f 4) ok)) ≡ ok
+    a2 = (both_pass (f 1) (lowest_of (f 2) (lowest_of (f 3) (lowest_of (f 4) ok))) a1).1
 
-    a3 : lowest_of (f 3) (lowest_of (f 4) Accepted) ≡ Accepted
-    a3 = (both_pass (f 2) (lowest_of (f 3) (lowest_of (f 4) Accepted)) a2).1
+    a3 : lowest_of (f 3) (lowest_of (f 4) ok) ≡ ok
+    a3 = (both_pass (f 2) (lowest_of (f 3) (lowest_of (f 4) ok)) a2).1
 
-    a4 : lowest_of (f 4) Accepted ≡ Accepted
-    a4 = (both_pass (f 3) (lowest_of (f 4) Accepted) a3).1
+    a4 : lowest_of (f 4) ok ≡ ok
+    a4 = (both_pass (f 3) (lowest_of (f 4) ok) a3).1
 
-    go : (form : ℕ) → form ≤ 4 → f form ≡ Accepted
-    go zero k = (both_pass (f 0) (lowest_of (f 1) (lowest_of (f 2) (lowest_of (f 3) (lowest_of (f 4) Accepted)))) h).0
-    go (suc zero) k = (both_pass (f 1) (lowest_of (f 2) (lowest_of (f 3) (lowest_of (f 4) Accepted))) a1).0
-    go (suc (suc zero)) k = (both_pass (f 2) (lowest_of (f 3) (lowest_of (f 4) Accepted)) a2).0
-    go (suc (suc (suc zero))) k = (both_pass (f 3) (lowest_of (f 4) Accepted) a3).0
-    go (suc (suc (suc (suc zero)))) k = (both_pass (f 4) Accepted a4).0
+    go : (form : ℕ) → form ≤ 4 → f form ≡ ok
+    go zero k = (both_pass (f 0) (lowest_of (f 1) (lowest_of (f 2) (lowest_of (f 3) (lowest_of (f 4) ok)))) h).0
+    go (suc zero) k = (both_pass (f 1) (lowest_of (f 2) (lowest_of (f 3) (lowest_of (f 4) ok))) a1).0
+    go (suc (suc zero)) k = (both_pass (f 2) (lowest_of (f 3) (lowest_of (f 4) ok)) a2).0
+    go (suc (suc (suc zero))) k = (both_pass (f 3) (lowest_of (f 4) ok) a3).0
+    go (suc (suc (suc (suc zero)))) k = (both_pass (f 4) ok a4).0
     go (suc (suc (suc (suc (suc n))))) k = absurd (omega arith)
 
 -- a tree of a side
-side-passes : (m : ℕ) (p : Pair) (side : ℕ) → side ≤ 1 → trees_outcome true m p ≡ Accepted → side_outcome true m p side ≡ Accepted
+side-passes : (m : ℕ) (p : Pair) (side : ℕ) → side ≤ 1 → trees_outcome true m p ≡ ok → side_outcome true m p side ≡ ok
 side-passes m p zero k h = (both_pass (side_outcome true m p 0) (side_outcome true m p 1) h).0
 side-passes m p (suc zero) k h = (both_pass (side_outcome true m p 0) (side_outcome true m p 1) h).1
 side-passes m p (suc (suc n)) k h = absurd (omega arith)

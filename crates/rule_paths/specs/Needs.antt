@@ -1,7 +1,7 @@
 -- What the functions below the operation ask for: trees that passed their checks, and tables that are large enough.
 -- Assumes nothing.
 use Rattle.std.specs.Prelude.{ℕ, ◌*◌, ◌≤◌, ◌≡◌, true, false, List, length}
-use Rattle.errors.specs.declared.Outcome.TheVariants.{Accepted}
+use Rattle.errors.specs.Refusals.{ok}
 use Rattle.parsing.specs.declared.patterns.Pattern.{Pattern}
 use Rattle.parsing.specs.Answers.{Eight}
 use Rattle.fragments.specs.Pairs.{Pair}
@@ -18,7 +18,7 @@ pub record Known (p : Pair) (pattern : Pattern) : Type 0 where
 -- the trees of a pair with their facts passed, with a fact text of some bytes
 pub record Passed (p : Pair) : Type 0 where
   pub bytes : ℕ
-  pub trees : trees_outcome true bytes p ≡ Accepted
+  pub trees : trees_outcome true bytes p ≡ ok
 
 -- a table has an entry for each element, or fact, of any tree in words
 abbrev pub Roomy : List ℕ → List ℕ → Type 0

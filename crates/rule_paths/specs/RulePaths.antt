@@ -2,7 +2,7 @@
 -- must resolve has no fact", in the trees of the rules left.
 -- Assumes nothing.
 use Rattle.std.specs.Prelude.{ℕ, Bool, false, ◌&&◌, ◌||◌, List, [], ◌∷◌, map}
-use Rattle.errors.specs.declared.Outcome.{Outcome}
+use Rattle.errors.specs.Refusals.{Outcome}
 use Rattle.errors.specs.declared.Refusal.TheVariants.{UnresolvedPath}
 use Rattle.errors.specs.Refusals.{first_of}
 use Rattle.parsing.specs.declared.patterns.Pattern.{Pattern}

@@ -3,7 +3,7 @@
 #![tactic(auto)]
 
 ghost use Rattle.std.specs.Prelude.{◌≡◌, true, not, ◌&&◌, map, ◌≤◌, ◌/◌, length};
-ghost use Rattle.errors.specs.declared.Outcome.TheVariants.{Accepted};
+ghost use Rattle.errors.specs.Refusals.{ok};
 ghost use Rattle.syntax.specs.Trees.{tree};
 ghost use Rattle.facts.specs.Keys.{Indexed};
 ghost use Rattle.fragments.specs.Pairs.{pair_of, pairs, tree_of, facts_of, is_present};
@@ -146,7 +146,7 @@ pub fn resolve_pairs(
     paths: &mut [u32],
     calls: &mut [u32],
 ) -> bool
-    requires bytes_value { stage_outcome TreesWithFacts fact_bytes (pairs directory.now words.now bytes.now) ≡ Accepted }
+    requires bytes_value { stage_outcome TreesWithFacts fact_bytes (pairs directory.now words.now bytes.now) ≡ ok }
     requires all_roomy { AllRoomy words.now index.old spare.old paths.old calls.old }
     ensures { result ≡ not (any (map pair_fails (pairs directory.now words.now bytes.now))) }
 {

@@ -2,8 +2,8 @@
 -- takes all pairs and the number of a rule, and answers how many rules are left and what that rule is. Facts are not looked at.
 -- Assumes nothing.
 use Rattle.std.specs.Prelude.{ℕ, List, length}
-use Rattle.errors.specs.declared.Outcome.{Outcome}
-use Rattle.errors.specs.declared.Outcome.TheVariants.{Accepted, Refused}
+use Rattle.std.specs.Prelude.{Ok, Err}
+use Rattle.errors.specs.Refusals.{Outcome}
 use Rattle.fragments.specs.Pairs.{pairs}
 use Rattle.rules.specs.Stages.{rules_outcome}
 use Rattle.rules.specs.Numbering.{rules, rule_at}
@@ -16,8 +16,8 @@ abbrev pub build_outcome : List ℕ → List ℕ → List ℕ → Outcome
 build_outcome directory words bytes = rules_outcome Trees 0 directory words bytes
 
 abbrev pub built_by : Outcome → List Rule → ℕ → Built
-built_by (Refused r) rs number = built.Refused r
-built_by Accepted rs number = built.Rules (length rs) (rule_at rs number)
+built_by (Err r) rs number = built.Refused r
+built_by (Ok tt) rs number = built.Rules (length rs) (rule_at rs number)
 
 abbrev pub built_rules : List ℕ → List ℕ → List ℕ → ℕ → Built
 built_rules directory words bytes number = built_by (build_outcome directory words bytes) (rules (pairs directory words bytes)) number

@@ -3,7 +3,7 @@
 -- their numbers is given."
 -- Assumes nothing.
 use Rattle.std.specs.Prelude.{ℕ, Bool, true, false, cond, not, List, [], ◌∷◌, map, eqb}
-use Rattle.errors.specs.declared.Outcome.{Outcome}
+use Rattle.errors.specs.Refusals.{Outcome}
 use Rattle.errors.specs.declared.Refusal.TheVariants.{MalformedList, NoForm}
 use Rattle.errors.specs.Refusals.{lowest_of, lowest, first_of, in_turn}
 use Rattle.validating.specs.Pairs.{pair_outcome}

@@ -5,7 +5,7 @@ ghost use Rattle.rules.specs.Building.{built_rules};
 use crate::numbering::Found;
 use crate::stages::Stage;
 use crate::{numbering, stages};
-use errors::{Outcome, Refusal};
+use errors::Refusal;
 
 // The refusal, or how many rules are left and the one that was asked for.
 #[derive(Clone, Copy)]
@@ -19,11 +19,11 @@ pub fn build_rules(directory: &[u32], words: &[u32], bytes: &[u8], number: usize
     ensures { result ≡ built_rules directory.now words.now bytes.now number }
 {
     match stages::check_rules(Stage::Trees, directory, words, bytes, 0) {
-        Outcome::Accepted => {
+        Ok(()) => {
             let count = numbering::count_rules(directory, words, bytes);
             let found = numbering::rule_at(directory, words, bytes, number);
             Built::Rules(count, found)
         }
-        Outcome::Refused(r) => Built::Refused(r),
+        Err(r) => Built::Refused(r),
     }
 }

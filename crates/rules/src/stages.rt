@@ -5,7 +5,7 @@ ghost use Rattle.fragments.specs.Pairs.{pair_of, in_words, pairs, five};
 ghost use Rattle.rules.specs.Stages.{owner_of, form_outcome, lists_outcome, side_outcome, trees_outcome, forms_outcome, pair_stage, stage_outcome, rules_outcome};
 
 use crate::forms;
-use errors::{Outcome, Refusal};
+use errors::Refusal;
 use facts::Owner;
 use fragments::{directory, pairs};
 use parsing::patterns;
@@ -54,7 +54,7 @@ fn check_form(
     right_text: bool,
     bytes: usize,
     fact_bytes: usize,
-) -> Outcome
+) -> Result<(), Refusal>
     requires { (side ≤ 1) × (form ≤ 4) }
     ensures { result ≡ form_outcome looked fact_bytes (in_words row.now words.now) side right_text bytes form }
 {
@@ -73,7 +73,7 @@ fn check_forms(
     right_text: bool,
     bytes: usize,
     fact_bytes: usize,
-) -> Outcome
+) -> Result<(), Refusal>
     requires { side ≤ 1 }
     ensures { result ≡ lowest (five (form_outcome looked fact_bytes (in_words row.now words.now) side right_text bytes)) }
 {
@@ -96,7 +96,7 @@ fn check_side(
     bytes: &[u8],
     side: usize,
     fact_bytes: usize,
-) -> Outcome
+) -> Result<(), Refusal>
     requires { side ≤ 1 }
     ensures { result ≡ side_outcome looked fact_bytes (pair_of row.now words.now bytes.now) side }
 {
@@ -107,12 +107,12 @@ fn check_side(
         let parsed = patterns::parse_pattern(list, text);
         let outcome = parsed.outcome;
         match outcome {
-            Outcome::Accepted => {
+            Ok(()) => {
                 let pattern = parsed.pattern;
                 let right = tree_text::is_tree_text(list, text, pattern, code);
                 check_forms(looked, row, words, side, right, code.len(), fact_bytes)
             }
-            Outcome::Refused(r) => Outcome::Refused(r),
+            Err(r) => Err(r),
         }
     } else {
         check_forms(looked, row, words, side, false, code.len(), fact_bytes)
@@ -120,7 +120,13 @@ fn check_side(
 }
 
 // The trees of a pair.
-fn check_trees(looked: bool, row: &[u32], words: &[u32], bytes: &[u8], fact_bytes: usize) -> Outcome
+fn check_trees(
+    looked: bool,
+    row: &[u32],
+    words: &[u32],
+    bytes: &[u8],
+    fact_bytes: usize,
+) -> Result<(), Refusal>
     ensures { result ≡ trees_outcome looked fact_bytes (pair_of row.now words.now bytes.now) }
 {
     let pattern = check_side(looked, row, words, bytes, 0, fact_bytes);
@@ -129,7 +135,7 @@ fn check_trees(looked: bool, row: &[u32], words: &[u32], bytes: &[u8], fact_byte
 }
 
 // The lists of a pair.
-fn check_lists(row: &[u32], words: &[u32], bytes: &[u8]) -> Outcome
+fn check_lists(row: &[u32], words: &[u32], bytes: &[u8]) -> Result<(), Refusal>
     ensures { result ≡ lists_outcome (pair_of row.now words.now bytes.now) }
 {
     validating::validate_rule(
@@ -142,18 +148,24 @@ fn check_lists(row: &[u32], words: &[u32], bytes: &[u8]) -> Outcome
 }
 
 // Whether a form of a pair is a rule.
-fn check_any_form(row: &[u32], words: &[u32]) -> Outcome
+fn check_any_form(row: &[u32], words: &[u32]) -> Result<(), Refusal>
     ensures { result ≡ forms_outcome (in_words row.now words.now) }
 {
     let rules = forms::rule_forms(row, words);
     if forms::any(rules) {
-        return Outcome::Accepted;
+        return Ok(());
     }
-    Outcome::Refused(Refusal::NoForm)
+    Err(Refusal::NoForm)
 }
 
 // A stage of one pair.
-fn check_pair(stage: Stage, row: &[u32], words: &[u32], bytes: &[u8], fact_bytes: usize) -> Outcome
+fn check_pair(
+    stage: Stage,
+    row: &[u32],
+    words: &[u32],
+    bytes: &[u8],
+    fact_bytes: usize,
+) -> Result<(), Refusal>
     ensures { result ≡ pair_stage stage fact_bytes (pair_of row.now words.now bytes.now) }
 {
     match stage {
@@ -171,10 +183,10 @@ pub fn check_stage(
     words: &[u32],
     bytes: &[u8],
     fact_bytes: usize,
-) -> Outcome
+) -> Result<(), Refusal>
     ensures { result ≡ stage_outcome stage fact_bytes (pairs directory.now words.now bytes.now) }
 {
-    let mut lowest = Outcome::Accepted;
+    let mut lowest = Ok(());
     let mut row = directory;
     let mut w = words;
     let mut b = bytes;
@@ -199,20 +211,18 @@ pub fn check_rules(
     words: &[u32],
     bytes: &[u8],
     fact_bytes: usize,
-) -> Outcome
+) -> Result<(), Refusal>
     ensures { result ≡ rules_outcome trees fact_bytes directory.now words.now bytes.now }
 {
     if directory::is_directory(directory, words, bytes) {
         match check_stage(Stage::Lists, directory, words, bytes, fact_bytes) {
-            Outcome::Accepted => match check_stage(trees, directory, words, bytes, fact_bytes) {
-                Outcome::Accepted => {
-                    check_stage(Stage::Forms, directory, words, bytes, fact_bytes)
-                }
-                Outcome::Refused(r) => Outcome::Refused(r),
+            Ok(()) => match check_stage(trees, directory, words, bytes, fact_bytes) {
+                Ok(()) => { check_stage(Stage::Forms, directory, words, bytes, fact_bytes) }
+                Err(r) => Err(r),
             },
-            Outcome::Refused(r) => Outcome::Refused(r),
+            Err(r) => Err(r),
         }
     } else {
-        Outcome::Refused(Refusal::MalformedList)
+        Err(Refusal::MalformedList)
     }
 }

@@ -4,8 +4,7 @@ use Rattle.std.specs.Prelude.{ℕ, ◌+◌, ◌≤◌, ◌<◌, ◌≡◌, List,
 use Rattle.words.specs.Texts.{part, stand_in_prefix}
 use Rattle.errors.specs.declared.Refusal.TheVariants.{DoesNotFit}
 use Rattle.words.specs.Buffer.{used_of, filled, laid}
-use Rattle.words.specs.declared.buffer.Placed.{Placed}
-use Rattle.words.specs.declared.buffer.Placed.TheVariants.{At, Full}
+use Rattle.std.specs.Prelude.{Option, Some, None}
 use Rattle.parsing.specs.declared.patterns.Placeholder.{Placeholder}
 use Rattle.rust_code.specs.declared.Written.{Written}
 use Rattle.rust_code.specs.declared.Written.TheVariants.{Length, Refused}
@@ -20,9 +19,9 @@ segments text end from [] = part text from end
 segments text end from (p ∷ ps) = segment text from p ++ segments text end p.whole.end ps
 
 -- bytes laid in a buffer at a place, or no room for them; nothing is said of the buffer then
-abbrev pub Lays : List ℕ → ℕ → List ℕ → Placed → List ℕ → Type 0
-Lays d at bs (At n) d' = (n ≡ at + length bs) × (n ≤ length d) × (d' ≡ laid d at bs)
-Lays d at bs Full d' = length d < at + length bs
+abbrev pub Lays : List ℕ → ℕ → List ℕ → Option ℕ → List ℕ → Type 0
+Lays d at bs (Some n) d' = (n ≡ at + length bs) × (n ≤ length d) × (d' ≡ laid d at bs)
+Lays d at bs None d' = length d < at + length bs
 
 -- bytes written into the used part of a buffer, or 16
 abbrev pub Writes : List ℕ → List ℕ → Written → List ℕ → Type 0

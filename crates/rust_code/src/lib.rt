@@ -9,11 +9,10 @@ ghost use Rattle.rust_code.specs.RawCode.{code_answer, code_bytes};
 ghost use Rattle.rust_code.specs.Segments.{segment, segments, Lays, Writes};
 ghost use Rattle.rust_code.specs.StandIns.{stand_in_index};
 
-use errors::{Outcome, Refusal};
+use errors::Refusal;
 use parsing::patterns;
 use parsing::patterns::{Pattern, Placeholder};
-use words::buffer::Placed;
-use words::{buffer, texts};
+use words::{buffer, slices, texts};
 
 pub mod tree_text; // tree_text.rt: comparing a tree's text with its list
 
@@ -25,20 +24,26 @@ pub enum Written {
 }
 
 // Lays the text before a placeholder, from a byte on, and its stand-in name.
-fn lay_placeholder(out: &mut [u8], at: usize, text: &[u8], from: usize, p: Placeholder) -> Placed
+fn lay_placeholder(
+    out: &mut [u8],
+    at: usize,
+    text: &[u8],
+    from: usize,
+    p: Placeholder,
+) -> Option<usize>
     ensures { Lays out.old at (segment text.now from p) result out.new }
 {
-    let Placed::At(n) = buffer::put(out, at, texts::part_of(text, from, p.whole.start)) else {
-        return Placed::Full;
+    let Some(n) = buffer::put(out, at, slices::part_of(text, from, p.whole.start)) else {
+        return None;
     };
-    let Placed::At(m) = buffer::put(out, n, b"__placeholder_") else {
-        return Placed::Full;
+    let Some(m) = buffer::put(out, n, b"__placeholder_") else {
+        return None;
     };
-    buffer::put(out, m, texts::part_of(text, p.name.start, p.name.end))
+    buffer::put(out, m, slices::part_of(text, p.name.start, p.name.end))
 }
 
 // Lays the raw code of a list from the buffer's front.
-fn lay_code(out: &mut [u8], text: &[u8], pattern: Pattern) -> Placed
+fn lay_code(out: &mut [u8], text: &[u8], pattern: Pattern) -> Option<usize>
     requires { Eight pattern }
     ensures { Lays out.old 0 (segments text.now (length text.now) 0 (take pattern.count pattern.placeholders)) result out.new }
 {
@@ -48,14 +53,14 @@ fn lay_code(out: &mut [u8], text: &[u8], pattern: Pattern) -> Placed
     let mut i: usize = 0;
     while i < n {
         let p = pattern.placeholders[i];
-        let Placed::At(m) = lay_placeholder(out, at, text, from, p) else {
-            return Placed::Full;
+        let Some(m) = lay_placeholder(out, at, text, from, p) else {
+            return None;
         };
         at = m;
         from = p.whole.end;
         i += 1;
     }
-    buffer::put(out, at, texts::part_of(text, from, text.len()))
+    buffer::put(out, at, slices::part_of(text, from, text.len()))
 }
 
 // The raw code of a list that was read, into the used part of the buffer.
@@ -65,11 +70,11 @@ fn write_code(out: &mut [u8], text: &[u8], pattern: Pattern) -> Written
 {
     let end = buffer::used(out.len());
     match lay_code(&mut out[..end], text, pattern) {
-        Placed::At(n) => {
+        Some(n) => {
             buffer::finish(out, n);
             Written::Length(n)
         }
-        Placed::Full => {
+        None => {
             buffer::finish(out, 0);
             Written::Refused(Refusal::DoesNotFit)
         }
@@ -85,8 +90,8 @@ pub fn as_rust_code(words: &[u32], text: &[u8], out: &mut [u8]) -> Written
     let pattern = parsed.pattern;
     let outcome = parsed.outcome;
     match outcome {
-        Outcome::Accepted => write_code(out, text, pattern),
-        Outcome::Refused(r) => {
+        Ok(()) => write_code(out, text, pattern),
+        Err(r) => {
             buffer::finish(out, 0);
             Written::Refused(r)
         }
@@ -99,7 +104,7 @@ pub fn find_stand_in(text: &[u8], pattern: Pattern, x: &[u8]) -> usize
     ensures { (vs : List Var) (ns : List ℕ) → pattern ≡ pattern_of vs ns → result ≡ stand_in_index text.now vs x.now }
 {
     if texts::has_stand_in_prefix(x) {
-        return patterns::find_name(text, pattern, texts::part_of(x, 14, x.len()));
+        return patterns::find_name(text, pattern, slices::part_of(x, 14, x.len()));
     }
     pattern.count
 }

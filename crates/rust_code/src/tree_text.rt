@@ -1,6 +1,6 @@
 // The text of a rule's tree: its list's raw code without WHITESPACE tokens at its ends.
 ghost use Rattle.std.specs.Prelude.{◌≡◌, List, [], true, ◌≤◌, length, take};
-ghost use Rattle.words.specs.Texts.{same_text};
+ghost use Rattle.words.specs.Texts.{same_text, has_prefix};
 ghost use Rattle.tokens.specs.Tokens.{is_token_list, total_length};
 ghost use Rattle.parsing.specs.Reading.{Element, vars, read, reading};
 ghost use Rattle.parsing.specs.Answers.{Eight, pattern_of};
@@ -10,7 +10,7 @@ ghost use Rattle.rust_code.specs.Segments.{segment, segments};
 
 use parsing::patterns::{Pattern, Placeholder};
 use tokens::Cursor;
-use words::{fields, texts};
+use words::{fields, slices};
 
 // The place behind bytes that were found, or that others stand there.
 #[derive(Clone, Copy)]
@@ -19,12 +19,19 @@ pub enum Eaten {
     Differs,
 }
 
+// Whether a text begins with a piece.
+fn starts_with(t: &[u8], piece: &[u8]) -> bool
+    ensures { result ≡ has_prefix piece.now t.now }
+{
+    piece.len() <= t.len() && &t[..piece.len()] == piece
+}
+
 // Whether a text has a piece at a place.
 fn eat(code: &[u8], at: usize, piece: &[u8]) -> Eaten
     requires { at ≤ length code.now }
     ensures { Eats code.now at piece.now result }
 {
-    if texts::starts_with(texts::part_of(code, at, code.len()), piece) {
+    if starts_with(slices::part_of(code, at, code.len()), piece) {
         return Eaten::At(at + piece.len());
     }
     Eaten::Differs
@@ -35,13 +42,13 @@ fn eat_placeholder(text: &[u8], from: usize, p: Placeholder, code: &[u8], at: us
     requires { at ≤ length code.now }
     ensures { Eats code.now at (segment text.now from p) result }
 {
-    let Eaten::At(n) = eat(code, at, texts::part_of(text, from, p.whole.start)) else {
+    let Eaten::At(n) = eat(code, at, slices::part_of(text, from, p.whole.start)) else {
         return Eaten::Differs;
     };
     let Eaten::At(m) = eat(code, n, b"__placeholder_") else {
         return Eaten::Differs;
     };
-    eat(code, m, texts::part_of(text, p.name.start, p.name.end))
+    eat(code, m, slices::part_of(text, p.name.start, p.name.end))
 }
 
 // Whether a text is the code of the list's text from a byte up to another.
@@ -62,10 +69,7 @@ fn is_segments(text: &[u8], end: usize, start: usize, pattern: Pattern, code: &[
         from = p.whole.end;
         i += 1;
     }
-    texts::same_text(
-        texts::part_of(text, from, end),
-        texts::part_of(code, at, code.len()),
-    )
+    slices::part_of(text, from, end) == slices::part_of(code, at, code.len())
 }
 
 // The cursor behind the leading WHITESPACE tokens.
@@ -95,7 +99,7 @@ fn trim_spaces(words: &[u32], total: usize, i: usize) -> Cursor
     let mut j = words.len();
     let mut end = total;
     while i < j {
-        let c = fields::tail(words, j - 1);
+        let c = slices::tail(words, j - 1);
         if fields::token_kind(c) == 2 {
             end -= fields::token_length(c);
             j -= 1;

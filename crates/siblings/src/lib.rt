@@ -8,7 +8,7 @@ ghost use Rattle.syntax.specs.Accessors.{children, rest, find_node};
 ghost use Rattle.siblings.specs.Siblings.{kind_of, skip_tokens, skip_trivia};
 
 use syntax::{accessors, parts};
-use words::fields;
+use words::{fields, slices};
 
 // The part behind some elements.
 pub fn behind(c: &[u32], n: usize) -> &[u32]
@@ -16,7 +16,7 @@ pub fn behind(c: &[u32], n: usize) -> &[u32]
     ensures result_value { result.now ≡ drop (n * 3) c.now }
     ensures result_value_2 { n * 3 + length result.now ≡ length c.now }
 {
-    fields::tail(c, n * 3)
+    slices::tail(c, n * 3)
 }
 
 // A number of elements, or all that a part has where these are fewer.
@@ -77,7 +77,7 @@ pub fn skip_tokens(part: &[u32], low: u32, high: u32) -> usize
     let mut c = part;
     while accessors::is_token_in(c, low, high) {
         at += 1;
-        let d = fields::tail(c, 3);
+        let d = slices::tail(c, 3);
         c = d;
     }
     at

@@ -10,7 +10,7 @@ use lib.Dec.{eqb, leb, ltb}
 use borrow.Author.Tests.{eq-eqb, ne_eqb, le-leb, lt-leb, ltb-true, ltb-false}
 use Rattle.words.specs.Fields.{is_a_token, syntax_kind, start_of, end_of}
 use Rattle.words.specs.Texts.{part}
-use Rattle.syntax.specs.declared.parts.Range.{Range}
+use Rattle.words.specs.declared.texts.Range.{Range}
 use Rattle.syntax.specs.Parts.{span, child_words, rest_words}
 use Rattle.syntax.specs.Trees.{Elems, none, token, node, elems}
 use Rattle.syntax.specs.Accessors.{children, rest, number_of, range_of, text_of, some, between, node_in, token_in, has_kind, has_element, find_node, first_token, only_ident}

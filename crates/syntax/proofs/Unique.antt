@@ -10,7 +10,7 @@ use lib.ListN.{length, drop, length-append}
 use lib.Seq.{take_at, drop_at}
 use lib.Dec.{eqb, leb}
 use borrow.Author.Tests.{eqb-true, le-leb, leb-true}
-use Rattle.errors.specs.declared.Outcome.TheVariants.{Accepted}
+use Rattle.errors.specs.Refusals.{ok}
 use Rattle.words.proofs.TestLaws.{and_both}
 use Rattle.words.specs.Fields.{word_of, syntax_kind, start_of, end_of}
 use Rattle.words.specs.Texts.{same_text}
@@ -63,7 +63,7 @@ decode-words (node j k s e cs r) i g =
     elems_node i p (omega arith) no ∙ rw (ch, dr, sp, kd, st, en, decode-words cs (i + 1) (good_children i j k s e cs r g), decode-words r (i + n) (good_rest_node i j k s e cs r g), g.numbered.0)
 
 -- the tree of accepted words
-one-tree : (n : ℕ) (l : List ℕ) → tree_outcome true n l ≡ Accepted → TreeOf n l
+one-tree : (n : ℕ) (l : List ℕ) → tree_outcome true n l ≡ ok → TreeOf n l
 unfolding is_tree_of
 one-tree n l h =
     let p = passed true n l h in
@@ -97,12 +97,12 @@ the_tree n l t =
     let g : Good 0 t.of = record { from = 0; to = n; inside = covers-tiles n t.of t.whole; good = t.good; small = omega (arith, t.small); few = omega (arith, t.few); numbered = t.numbered } in
     ap tree (sym t.are) ∙ decode-words t.of 0 g
 
-accepts : (n : ℕ) (l : List ℕ) → TreeOf n l → tree_outcome true n l ≡ Accepted
+accepts : (n : ℕ) (l : List ℕ) → TreeOf n l → tree_outcome true n l ≡ ok
 accepts n l t =
     let lw : size t.of * 3 ≡ length l = sym (length-words t.of) ∙ ap length t.are in
     let root : (is_root n l && every l) ≡ true = subst (λ (x : List ℕ). (is_root n x && every x) ≡ true) t.are (complete_of n t.of t.small (omega (arith, t.few)) t.whole t.good) in
     a_tree n l (within_limits n l t.few t.small) (tree_exactly n l t.small t.few ∙ root) (rw (the_tree n l t) (le-leb _ _ t.shallow))
 
 -- ACCEPTED EXACTLY IF WELL-FORMED
-pub accepted_exactly : (n : ℕ) (l : List ℕ) → (tree_outcome true n l ≡ Accepted) ↔ TreeOf n l
+pub accepted_exactly : (n : ℕ) (l : List ℕ) → (tree_outcome true n l ≡ ok) ↔ TreeOf n l
 accepted_exactly n l = (one-tree n l, accepts n l)

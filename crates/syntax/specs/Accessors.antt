@@ -5,7 +5,7 @@
 use Rattle.std.specs.Prelude.{ℕ, ◌+◌, Bool, true, false, cond, ◌&&◌, ◌||◌, List, [], ◌∷◌, eqb, leb, length}
 use Rattle.words.specs.Texts.{part}
 use Rattle.syntax.specs.Trees.{Elems, none, token, node}
-use Rattle.syntax.specs.declared.parts.Range.{Range}
+use Rattle.words.specs.declared.texts.Range.{Range}
 use Rattle.syntax.specs.declared.accessors.Standing.{Standing}
 
 -- the children of the first element, and what follows it

@@ -1,7 +1,7 @@
 -- "Trees with facts, wherever given", document 01: the checks of one tree, in their order.
 -- Assumes nothing.
 use Rattle.std.specs.Prelude.{ℕ, ◌/◌, ◌≤◌, ◌≡◌, Bool, true, not, ◌||◌, ◌&&◌, List, [], ◌∷◌, ltb, length}
-use Rattle.errors.specs.declared.Outcome.{Outcome}
+use Rattle.errors.specs.Refusals.{Outcome}
 use Rattle.errors.specs.declared.Refusal.TheVariants.{TreeTooLarge, MalformedTree, TreeTooDeep}
 use Rattle.errors.specs.Refusals.{Check, first_of}
 use Rattle.syntax.specs.Trees.{Elems, Numbered, words, tree, tiles, formed, covers, is_tree_of, depth}

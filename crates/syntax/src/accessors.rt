@@ -6,8 +6,8 @@ ghost use Rattle.syntax.specs.Accessors.{children, range_of, node_in, token_in, 
 ghost use Rattle.syntax.specs.Checks.{WellFormed};
 
 use crate::parts;
-use crate::parts::Range;
-use words::fields;
+use words::texts::Range;
+use words::{fields, slices};
 
 // The range of the first element.
 pub fn range_of(c: &[u32]) -> Range
@@ -138,7 +138,7 @@ pub fn is_node_at(words: &[u32], number: usize, low: u32, high: u32) -> bool
     requires number_bound { number < 268435456 }
     ensures { result ≡ node_in low high (element_at number (tree words.now)) }
 {
-    is_node_in(fields::tail(words, number * 3), low, high)
+    is_node_in(slices::tail(words, number * 3), low, high)
 }
 
 // The part of the element of a number by itself; empty where there is none.
@@ -149,7 +149,7 @@ pub fn element(words: &[u32], number: usize) -> &[u32]
     ensures result_in_bounds { length result.now ≤ length words.now }
     ensures result_in_bounds_2 { 3 ≤ length result.now → number * 3 + length result.now ≤ length words.now }
 {
-    let c = fields::tail(words, number * 3);
+    let c = slices::tail(words, number * 3);
     let n = parts::span_of(c) * 3;
     if n <= c.len() {
         return &c[..n];
@@ -164,9 +164,9 @@ pub fn is_token_within(words: &[u32], number: usize, inner: usize) -> bool
     requires inner_bound { inner < 268435456 }
     ensures { result ≡ token_in 1 1023 (element_at inner (children (element_at number (tree words.now)))) }
 {
-    let c = fields::tail(words, number * 3);
+    let c = slices::tail(words, number * 3);
     if fields::is_node(c) & (number < inner) & (inner < number + fields::size(c)) {
-        return is_token_in(fields::tail(words, inner * 3), 1, 1023);
+        return is_token_in(slices::tail(words, inner * 3), 1, 1023);
     }
     false
 }
@@ -190,7 +190,7 @@ pub fn standing_of(words: &[u32], number: usize) -> Standing
     }
     let mut at: usize = 0;
     while at < number {
-        let next = at + parts::span_of(fields::tail(words, at * 3));
+        let next = at + parts::span_of(slices::tail(words, at * 3));
         if next <= number {
             at = next;
         } else {

@@ -2,14 +2,7 @@
 ghost use Rattle.std.specs.Prelude.{◌≡◌};
 ghost use Rattle.syntax.specs.Parts.{span, child_words, rest_words};
 
-use words::fields;
-
-// The bytes of an element.
-#[derive(Clone, Copy)]
-pub struct Range {
-    pub start: usize,
-    pub end: usize,
-}
+use words::{fields, slices};
 
 // How many elements the first one has with all below it.
 pub fn span_of(c: &[u32]) -> usize
@@ -33,12 +26,12 @@ pub fn children(c: &[u32]) -> &[u32]
     if n <= c.len() {
         return &c[3..n];
     }
-    fields::tail(c, 3)
+    slices::tail(c, 3)
 }
 
 // The words of what follows the first element.
 pub fn rest(c: &[u32]) -> &[u32]
     ensures { result.now ≡ rest_words c.now }
 {
-    fields::tail(c, span_of(c) * 3)
+    slices::tail(c, span_of(c) * 3)
 }

@@ -120,5 +120,5 @@ table =
     ∷ []
 
 examples : map (λ x. pieces (side x.code x.facts) x.template) table ≡ map (λ x. x.gives) table
-unfolding tokens_of render find_node first_token part same_text stand_in_index contains_type_arguments contains_placeholder step resolved_paths last_note facts_of fact_index
+unfolding tokens_of render find_node first_token part stand_in_index contains_type_arguments contains_placeholder step resolved_paths last_note facts_of fact_index
 examples = refl

@@ -126,7 +126,6 @@ only_next zero i l h true t n =
 
 -- a token is the receiver exactly if its number is the lone one
 pub receiver_is : (rs : List ℕ) (i : ℕ) → is_receiver rs i ≡ eqb (only_of rs) (i + 1)
-unfolding same_text
 receiver_is [] i = sym (ne_eqb 0 (i + 1) (λ e. omega arith))
 receiver_is (j ∷ []) i = by (eqb j i) refl
   where

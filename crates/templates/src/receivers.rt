@@ -9,14 +9,14 @@ ghost use Rattle.templates.specs.Pieces.{tokens_of, receiver_below};
 ghost use Rattle.templates.specs.Rendering.{only_of};
 
 use syntax::{accessors, parts};
-use words::fields;
+use words::{fields, slices};
 
 // The children of the element that stands behind some others of a part.
 pub fn children_behind(part: &[u32], passed: usize) -> &[u32]
     requires { passed ≤ 268435456 }
     ensures { result.now ≡ child_words (drop (passed * 3) part.now) }
 {
-    parts::children(fields::tail(part, passed * 3))
+    parts::children(slices::tail(part, passed * 3))
 }
 
 // The lone token after one more element, which is a token or not.
@@ -46,7 +46,7 @@ fn only_token(part: &[u32], number: usize) -> usize
         }
         only = lone_token(only, is_token, at);
         at += 1;
-        let d = fields::tail(c, 3);
+        let d = slices::tail(c, 3);
         c = d;
     }
     only

@@ -15,7 +15,7 @@ use crate::{codes, receivers};
 use facts::index;
 use parsing::patterns::Pattern;
 use syntax::{accessors, parts};
-use words::{fields, texts};
+use words::{fields, slices};
 
 // Whether an element is rendered as a path.
 fn is_rendered(paths: &[u32], facts: &[u32], element: usize) -> bool
@@ -43,7 +43,7 @@ fn render_token(
     let start = fields::start(c);
     let end = fields::end(c);
     if fields::syntax_kind(c) == 1 {
-        let slot = rust_code::find_stand_in(text, pattern, texts::part_of(code, start, end));
+        let slot = rust_code::find_stand_in(text, pattern, slices::part_of(code, start, end));
         if slot < pattern.count {
             return codes::hole_piece(slot, receiver == number + 1);
         }

@@ -5,7 +5,7 @@ ghost use Rattle.token_trees.specs.Runs.{is_stop, RunIs};
 
 use matcher::token_matching;
 use syntax::accessors;
-use words::{fields, texts};
+use words::{fields, slices};
 
 // Whether a run ends at a stop, and whether that is a subtree; how many elements are before the last one taken, how many of the pattern are
 // used up meanwhile, and how many of the code are before the stop.
@@ -30,9 +30,9 @@ fn is_stop(stop: &[u32], c: &[u32], rule: &[u8], file: &[u8]) -> bool
     let other = accessors::range_of(first);
     token_matching::same_stop(
         siblings::kind_of(stop),
-        texts::part_of(rule, at.start, at.end),
+        slices::part_of(rule, at.start, at.end),
         siblings::kind_of(first),
-        texts::part_of(file, other.start, other.end),
+        slices::part_of(file, other.start, other.end),
     )
 }
 

@@ -4,7 +4,7 @@
 ghost use Rattle.std.specs.Prelude.{◌≡◌, ◌∷◌, cond, ◌+◌, ◌*◌, ◌<◌, ◌≤◌, length, drop};
 ghost use Rattle.tokens.specs.Tokens.{token_at, token_text, is_token_word, is_token_list, rest, after, head_is, Along};
 
-use words::{fields, texts};
+use words::{fields, slices};
 
 // A token of a list: its kind, and where its text stands in the list's text.
 #[derive(Clone, Copy)]
@@ -39,7 +39,7 @@ pub fn is_token_list(words: &[u32], text: &[u8]) -> bool
     let mut total: usize = 0;
     let mut i = 0;
     while i < words.len() {
-        let c = fields::tail(words, i);
+        let c = slices::tail(words, i);
         if is_token_word(c) {
             total += fields::token_length(c);
             i += 1;
@@ -54,7 +54,7 @@ pub fn is_token_list(words: &[u32], text: &[u8]) -> bool
 pub fn token_at(words: &[u32], c: Cursor) -> Token
     ensures { result ≡ token_at (drop c.index words.now) c.at }
 {
-    let part = fields::tail(words, c.index);
+    let part = slices::tail(words, c.index);
     Token {
         kind: fields::token_kind(part),
         start: c.at,
@@ -69,7 +69,7 @@ pub fn next(words: &[u32], c: Cursor) -> Cursor
     ensures value { result ≡ after words.now c }
     ensures along_2 { Along words.now result }
 {
-    let part = fields::tail(words, c.index);
+    let part = slices::tail(words, c.index);
     Cursor {
         index: c.index + 1,
         at: c.at + fields::token_length(part),
@@ -83,7 +83,7 @@ pub fn is_text(words: &[u32], text: &[u8], c: Cursor, expected: &[u8]) -> bool
 {
     if c.index < words.len() {
         let t = token_at(words, c);
-        return texts::same_text(text_at(text, t), expected);
+        return text_at(text, t) == expected;
     }
     false
 }
@@ -93,5 +93,5 @@ pub fn text_at(text: &[u8], t: Token) -> &[u8]
     requires { t.start + t.length < 4294967296 }
     ensures { result.now ≡ token_text text.now t }
 {
-    texts::part_of(text, t.start, t.start + t.length)
+    slices::part_of(text, t.start, t.start + t.length)
 }

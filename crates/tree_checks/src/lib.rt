@@ -6,7 +6,7 @@ ghost use Rattle.syntax.specs.Trees.{is_token_kind, is_node_kind, elems, tiles, 
 ghost use Rattle.syntax.specs.Rows.{in_row, is_ranged, is_token_part, is_node_head, is_node_part, is_element, every, is_root};
 ghost use Rattle.syntax.specs.Checks.{tree_outcome};
 
-use errors::{Outcome, Refusal};
+use errors::Refusal;
 use syntax::parts;
 use words::fields;
 
@@ -170,20 +170,20 @@ fn is_shallow(part: &[u32], levels: usize) -> bool
 }
 
 // 18, 19 and 20 of a tree over a text of some bytes; another text than the one it should be is 19.
-pub fn check_tree(words: &[u32], bytes: usize, right_text: bool) -> Outcome
+pub fn check_tree(words: &[u32], bytes: usize, right_text: bool) -> Result<(), Refusal>
     ensures { result ≡ tree_outcome right_text bytes words.now }
 {
     if (16383 < words.len() / 3) | (65535 < bytes) {
-        return Outcome::Refused(Refusal::TreeTooLarge);
+        return Err(Refusal::TreeTooLarge);
     }
     if right_text {
         if is_tree(words, bytes) {
             if is_shallow(words, 128) {
-                return Outcome::Accepted;
+                return Ok(());
             }
-            return Outcome::Refused(Refusal::TreeTooDeep);
+            return Err(Refusal::TreeTooDeep);
         }
-        return Outcome::Refused(Refusal::MalformedTree);
+        return Err(Refusal::MalformedTree);
     }
-    Outcome::Refused(Refusal::MalformedTree)
+    Err(Refusal::MalformedTree)
 }

@@ -7,8 +7,8 @@ use mathlib.Core.List.{List, [], ◌∷◌}
 use Prim.Native.Nat.{ℕ}
 use lib.ListN.{length}
 use borrow.Author.Tests.{ne_eqb}
-use Rattle.errors.specs.declared.Outcome.{Outcome}
-use Rattle.errors.specs.declared.Outcome.TheVariants.{Accepted, Refused}
+use Rattle.std.proofs.Common.{Ok, Err}
+use Rattle.errors.specs.Refusals.{Outcome, ok, err}
 use Rattle.errors.specs.declared.Refusal.{Refusal}
 use Rattle.errors.specs.declared.Refusal.TheVariants.{MalformedFacts}
 use Rattle.errors.specs.Refusals.{Check, first_of}
@@ -23,27 +23,27 @@ use Rattle.facts.specs.Facts.{is_fact_list}
 use Rattle.trees.specs.Given.{fact_checks, with_facts, rule_outcome, has_right_text, listed_outcome, given_outcome, Stands}
 
 module _ (owner : Owner) (t : Bool) (n : ℕ) (l facts : List ℕ) (m : ℕ) where
-  pub tree-refused : (r : Refusal) → tree_outcome t n l ≡ Refused r → with_facts owner t n l facts m ≡ Refused r
+  pub tree-refused : (r : Refusal) → tree_outcome t n l ≡ err r → with_facts owner t n l facts m ≡ err r
   tree-refused r h = first-stop (tree_checks t n l) (fact_checks owner l facts m) r h
 
-  pub facts_good : tree_outcome t n l ≡ Accepted → is_fact_list owner (tree l) m facts ≡ true → with_facts owner t n l facts m ≡ Accepted
+  pub facts_good : tree_outcome t n l ≡ ok → is_fact_list owner (tree l) m facts ≡ true → with_facts owner t n l facts m ≡ ok
   unfolding first_of
   facts_good h f = first_pass (tree_checks t n l) (fact_checks owner l facts m) h ∙ rw f
 
-  pub facts_bad : tree_outcome t n l ≡ Accepted → is_fact_list owner (tree l) m facts ≡ false → with_facts owner t n l facts m ≡ Refused MalformedFacts
+  pub facts_bad : tree_outcome t n l ≡ ok → is_fact_list owner (tree l) m facts ≡ false → with_facts owner t n l facts m ≡ err MalformedFacts
   unfolding first_of
   facts_bad h f = first_pass (tree_checks t n l) (fact_checks owner l facts m) h ∙ rw f
 
-  pub tree-first : (o : Outcome) → tree_outcome t n l ≡ o → with_facts owner t n l facts m ≡ Accepted → tree_outcome t n l ≡ Accepted
-  tree-first Accepted e h = e
-  tree-first (Refused r) e h = absurd (refused_not (sym (tree-refused r e) ∙ h))
+  pub tree-first : (o : Outcome) → tree_outcome t n l ≡ o → with_facts owner t n l facts m ≡ ok → tree_outcome t n l ≡ ok
+  tree-first (Ok tt) e h = e
+  tree-first (Err r) e h = absurd (refused_not (sym (tree-refused r e) ∙ h))
 
-  pub facts_then : (b : Bool) → is_fact_list owner (tree l) m facts ≡ b → tree_outcome t n l ≡ Accepted → with_facts owner t n l facts m ≡ Accepted → is_fact_list owner (tree l) m facts ≡ true
+  pub facts_then : (b : Bool) → is_fact_list owner (tree l) m facts ≡ b → tree_outcome t n l ≡ ok → with_facts owner t n l facts m ≡ ok → is_fact_list owner (tree l) m facts ≡ true
   facts_then true e h w = e
   facts_then false e h w = absurd (refused_not (sym (facts_bad h e) ∙ w))
 
 -- ACCEPTED EXACTLY IF WELL-FORMED, tree and facts
-pub stands_exactly : (owner : Owner) (n : ℕ) (l facts : List ℕ) (m : ℕ) → (with_facts owner true n l facts m ≡ Accepted) ↔ Stands owner n l facts m
+pub stands_exactly : (owner : Owner) (n : ℕ) (l facts : List ℕ) (m : ℕ) → (with_facts owner true n l facts m ≡ ok) ↔ Stands owner n l facts m
 stands_exactly owner n l facts m = (
   λ h. let t = tree-first owner true n l facts m (tree_outcome true n l) refl h in
       record { tree_of = (accepted_exactly n l).0 t; facts_of = facts_then owner true n l facts m (is_fact_list owner (tree l) m facts) refl t h },
@@ -52,18 +52,18 @@ stands_exactly owner n l facts m = (
 
 -- what an accepted rule's tree that is there passed: it is well-formed, and so are its facts
 module _ (owner : Owner) (l facts : List ℕ) (m : ℕ) (there : length l ≡ 0 → ⊥) where
-  with-stands : (t : Bool) (n : ℕ) → with_facts owner t n l facts m ≡ Accepted → WellFormed l × (is_fact_list owner (tree l) m facts ≡ true)
+  with-stands : (t : Bool) (n : ℕ) → with_facts owner t n l facts m ≡ ok → WellFormed l × (is_fact_list owner (tree l) m facts ≡ true)
   with-stands t n h =
       let o = tree-first owner t n l facts m (tree_outcome t n l) refl h in
       (accepted t n l o, facts_then owner t n l facts m (is_fact_list owner (tree l) m facts) refl o h)
 
-  rule-stands : (t : Bool) (n : ℕ) → rule_outcome owner t l n facts m ≡ Accepted → WellFormed l × (is_fact_list owner (tree l) m facts ≡ true)
+  rule-stands : (t : Bool) (n : ℕ) → rule_outcome owner t l n facts m ≡ ok → WellFormed l × (is_fact_list owner (tree l) m facts ≡ true)
   rule-stands t n h = with-stands t n (rw (ne_eqb (length l) 0 there) at h)
 
-  listed-stands : (text code : List ℕ) (r : Reading) → listed_outcome text r owner l code facts m ≡ Accepted → WellFormed l × (is_fact_list owner (tree l) m facts ≡ true)
+  listed-stands : (text code : List ℕ) (r : Reading) → listed_outcome text r owner l code facts m ≡ ok → WellFormed l × (is_fact_list owner (tree l) m facts ≡ true)
   listed-stands text code (refused r) h = absurd (refused_not h)
   listed-stands text code (read es) h = rule-stands (has_right_text text es code) (length code) h
 
-  pub given-stands : (given : Bool) (list text code : List ℕ) → given_outcome given list text owner l code facts m ≡ Accepted → WellFormed l × (is_fact_list owner (tree l) m facts ≡ true)
+  pub given-stands : (given : Bool) (list text code : List ℕ) → given_outcome given list text owner l code facts m ≡ ok → WellFormed l × (is_fact_list owner (tree l) m facts ≡ true)
   given-stands true list text code h = listed-stands text code (reading list text) h
   given-stands false list text code h = rule-stands false (length code) h

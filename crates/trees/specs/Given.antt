@@ -2,8 +2,7 @@
 -- the root being at 1; 21 facts malformed".
 -- Assumes nothing.
 use Rattle.std.specs.Prelude.{ℕ, ◌≡◌, Bool, true, false, cond, not, List, [], ◌∷◌, ◌++◌, eqb, length}
-use Rattle.errors.specs.declared.Outcome.{Outcome}
-use Rattle.errors.specs.declared.Outcome.TheVariants.{Refused}
+use Rattle.errors.specs.Refusals.{Outcome, err}
 use Rattle.errors.specs.declared.Refusal.TheVariants.{MalformedFacts}
 use Rattle.errors.specs.Refusals.{Check, first_of}
 use Rattle.words.specs.Texts.{same_text}
@@ -38,7 +37,7 @@ has_right_text text es code = same_text (tree_text text es) code
 
 -- a rule's tree with its list, whose refusal comes first
 abbrev pub listed_outcome : List ℕ → Reading → Owner → List ℕ → List ℕ → List ℕ → ℕ → Outcome
-listed_outcome text (refused r) owner l code facts m = Refused r
+listed_outcome text (refused r) owner l code facts m = err r
 listed_outcome text (read es) owner l code facts m = rule_outcome owner (has_right_text text es code) l (length code) facts m
 
 -- a rule's tree, whose list is given or not; without a list no text is the right one

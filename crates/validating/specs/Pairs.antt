@@ -5,8 +5,7 @@ use Rattle.std.specs.Prelude.{ℕ, Bool, true, false, cond, ◌&&◌, ◌||◌, 
 use Rattle.errors.specs.declared.Refusal.TheVariants.{TemplateConstraint, UndefinedPlaceholder}
 use Rattle.errors.specs.Refusals.{lowest_of}
 use Rattle.tokens.specs.Tokens.{token_text}
-use Rattle.errors.specs.declared.Outcome.{Outcome}
-use Rattle.errors.specs.declared.Outcome.TheVariants.{Accepted, Refused}
+use Rattle.errors.specs.Refusals.{Outcome, ok, err}
 use Rattle.parsing.specs.Reading.{Var, vars, Reading, read, refused, reading, has_name}
 use Rattle.parsing.specs.Answers.{answer_of}
 
@@ -23,13 +22,13 @@ defines_all pattern ps template (v ∷ vs) = has_name pattern ps (token_text tem
 -- both lists are read
 abbrev pub checked_pair : List ℕ → List Var → List ℕ → List Var → Outcome
 checked_pair pattern ps template ts =
-    cond (has_constraint ts) (Refused TemplateConstraint)
-    (cond (defines_all pattern ps template ts) Accepted (Refused UndefinedPlaceholder))
+    cond (has_constraint ts) (err TemplateConstraint)
+    (cond (defines_all pattern ps template ts) ok (err UndefinedPlaceholder))
 
 abbrev pub both_lists : List ℕ → Reading → List ℕ → Reading → Outcome
-both_lists pattern (refused r) template (refused s) = lowest_of (Refused r) (Refused s)
-both_lists pattern (refused r) template (read fs) = Refused r
-both_lists pattern (read es) template (refused s) = Refused s
+both_lists pattern (refused r) template (refused s) = lowest_of (err r) (err s)
+both_lists pattern (refused r) template (read fs) = err r
+both_lists pattern (read es) template (refused s) = err s
 both_lists pattern (read es) template (read fs) = checked_pair pattern (vars es) template (vars fs)
 
 -- the pair of the lists, or the pattern alone where no template is given

@@ -6,10 +6,10 @@ ghost use Rattle.parsing.specs.Reading.{Var, Reading};
 ghost use Rattle.parsing.specs.Answers.{Eight, pattern_of, answer_of};
 ghost use Rattle.validating.specs.Pairs.{defines_all, checked_pair, both_lists, pair_outcome};
 
-use errors::{Outcome, Refusal};
+use errors::Refusal;
 use parsing::patterns;
 use parsing::patterns::{ParsedPattern, Pattern};
-use words::texts;
+use words::slices;
 
 // Whether every placeholder of the template has its name in the pattern.
 fn defines_all(
@@ -26,7 +26,7 @@ fn defines_all(
     let mut i: usize = 0;
     while i < n {
         let p = template.placeholders[i];
-        let name = texts::part_of(template_text, p.name.start, p.name.end);
+        let name = slices::part_of(template_text, p.name.start, p.name.end);
         if patterns::find_name(pattern_text, pattern, name) < pattern.count {
             i += 1;
         } else {
@@ -42,18 +42,18 @@ fn check_template(
     pattern: Pattern,
     template_text: &[u8],
     template: Pattern,
-) -> Outcome
+) -> Result<(), Refusal>
     requires eight { Eight pattern }
     requires eight_2 { Eight template }
     ensures { (ps ts : List Var) → pattern ≡ pattern_of ps [] → template ≡ pattern_of ts [] → result ≡ checked_pair pattern_text.now ps template_text.now ts }
 {
     if 0 < template.constraints {
-        return Outcome::Refused(Refusal::TemplateConstraint);
+        return Err(Refusal::TemplateConstraint);
     }
     if defines_all(pattern_text, pattern, template_text, template) {
-        return Outcome::Accepted;
+        return Ok(());
     }
-    Outcome::Refused(Refusal::UndefinedPlaceholder)
+    Err(Refusal::UndefinedPlaceholder)
 }
 
 // A pattern and a template, each read or refused.
@@ -62,7 +62,7 @@ fn validate_lists(
     pattern: ParsedPattern,
     template_text: &[u8],
     template: ParsedPattern,
-) -> Outcome
+) -> Result<(), Refusal>
     requires eight { Eight pattern.pattern }
     requires eight_2 { Eight template.pattern }
     ensures { (p t : Reading) → pattern ≡ answer_of p → template ≡ answer_of t → result ≡ both_lists pattern_text.now p template_text.now t }
@@ -70,17 +70,17 @@ fn validate_lists(
     let p = pattern.outcome;
     let t = template.outcome;
     match p {
-        Outcome::Accepted => match t {
-            Outcome::Accepted => {
+        Ok(()) => match t {
+            Ok(()) => {
                 let ps = pattern.pattern;
                 let ts = template.pattern;
                 check_template(pattern_text, ps, template_text, ts)
             }
-            Outcome::Refused(s) => Outcome::Refused(s),
+            Err(s) => Err(s),
         },
-        Outcome::Refused(r) => match t {
-            Outcome::Accepted => Outcome::Refused(r),
-            Outcome::Refused(s) => errors::lowest(Outcome::Refused(r), Outcome::Refused(s)),
+        Err(r) => match t {
+            Ok(()) => Err(r),
+            Err(s) => errors::lowest(Err(r), Err(s)),
         },
     }
 }
@@ -92,7 +92,7 @@ pub fn validate_rule(
     has_template: bool,
     template_words: &[u32],
     template_text: &[u8],
-) -> Outcome
+) -> Result<(), Refusal>
     ensures { result ≡ pair_outcome pattern_words.now pattern_text.now has_template template_words.now template_text.now }
 {
     let pattern = patterns::parse_pattern(pattern_words, pattern_text);

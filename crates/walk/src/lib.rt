@@ -17,7 +17,7 @@ ghost use Rattle.walk_answers.specs.Walkable.{Resolved, Walkable};
 
 use checks::Restriction;
 use edits::Edited;
-use errors::{Outcome, Refusal};
+use errors::Refusal;
 use finding::find_all;
 use rules::numbering;
 use words::buffer;
@@ -124,11 +124,11 @@ fn check_and_write<'a>(
         (length out.old))) }
 {
     match parse_checks::check_parses(parses, parse_text) {
-        Outcome::Accepted => write_found(
+        Ok(()) => write_found(
             directory, words, bytes, fact_text, tree, text, facts, parses, parse_text, range,
             file_index, candidates, found, keys, more, index, spare, paths, calls, marks, out,
         ),
-        Outcome::Refused(r) => edits::refuse(r, out),
+        Err(r) => edits::refuse(r, out),
     }
 }
 
@@ -235,11 +235,11 @@ fn walk_resolved<'a>(
         (length out.old))) }
 {
     match walk_answers::check_rules(directory, words, bytes, range) {
-        Outcome::Accepted => find_and_write(
+        Ok(()) => find_and_write(
             directory, words, bytes, fact_text, tree, text, facts, parses, parse_text, range,
             file_index, candidates, keys, more, index, spare, paths, calls, marks, out,
         ),
-        Outcome::Refused(r) => edits::refuse(r, out),
+        Err(r) => edits::refuse(r, out),
     }
 }
 
@@ -291,11 +291,11 @@ fn walk_in<'a>(
         calls,
         file_index,
     ) {
-        Outcome::Accepted => walk_resolved(
+        Ok(()) => walk_resolved(
             directory, words, bytes, fact_text, tree, text, facts, parses, parse_text, range,
             file_index, candidates, keys, more, index, spare, paths, calls, marks, out,
         ),
-        Outcome::Refused(r) => edits::refuse(r, out),
+        Err(r) => edits::refuse(r, out),
     }
 }
 

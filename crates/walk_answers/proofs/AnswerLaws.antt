@@ -4,8 +4,7 @@ use Prim.Native.Nat.{ℕ, ◌≤◌}
 use mathlib.Core.Path.{◌≡◌, sym, ap, ◌∙◌}
 use mathlib.Core.List.{List, [], ◌++◌}
 use lib.ListN.{length, take, drop}
-use Rattle.errors.specs.declared.Outcome.{Outcome}
-use Rattle.errors.specs.declared.Outcome.TheVariants.{Accepted, Refused}
+use Rattle.errors.specs.Refusals.{Outcome, ok, err}
 use Rattle.errors.specs.declared.Refusal.{Refusal}
 use Rattle.words.specs.Buffer.{used_of, filled}
 use Rattle.words.proofs.BufferLaws.{used_all, part_filled}
@@ -22,11 +21,11 @@ module _ (list : Out (List ℕ)) (out : List ℕ) (o : Outcome) where
       → (answer_after o' list ≡ answer_after o list) × (filled out (bytes_after o' list) ≡ filled out (bytes_after o list))
   answers_same o' e = (ap (λ (x : Outcome). answer_after x list) e, ap (λ (x : Outcome). filled out (bytes_after x list)) e)
 
-  pub answers_list : Accepted ≡ o → (answer_of list ≡ answer_after o list) × (filled out (bytes_of list) ≡ filled out (bytes_after o list))
-  answers_list e = answers_same Accepted e
+  pub answers_list : ok ≡ o → (answer_of list ≡ answer_after o list) × (filled out (bytes_of list) ≡ filled out (bytes_after o list))
+  answers_list e = answers_same ok e
 
-  pub answers_refused : (r : Refusal) → Refused r ≡ o → (edited.Refused r ≡ answer_after o list) × (filled out [] ≡ filled out (bytes_after o list))
-  answers_refused r e = answers_same (Refused r) e
+  pub answers_refused : (r : Refusal) → err r ≡ o → (edited.Refused r ≡ answer_after o list) × (filled out [] ≡ filled out (bytes_after o list))
+  answers_refused r e = answers_same (err r) e
 
 module _ (j : Job) where
   -- of a buffer that is used whole

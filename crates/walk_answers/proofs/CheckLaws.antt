@@ -8,8 +8,7 @@ use native.Mathlib.Omega.{arith}
 use lib.Dec.{ltb}
 use lib.ListN.{length, take, drop}
 use borrow.Author.Tests.{ltb-false, lt-ltb, le-ltb}
-use Rattle.errors.specs.declared.Outcome.{Outcome}
-use Rattle.errors.specs.declared.Outcome.TheVariants.{Accepted, Refused}
+use Rattle.errors.specs.Refusals.{Outcome, ok, err}
 use Rattle.errors.specs.declared.Refusal.{Refusal}
 use Rattle.errors.specs.declared.Refusal.TheVariants.{TooManyRulesOrCandidates, NoSuchCandidate, RepeatedCandidate, NoTemplate}
 use Rattle.errors.specs.Refusals.{first_of, in_turn}
@@ -78,27 +77,27 @@ module _ (directory words bytes fact_text : List ℕ) (file : File) (parses pars
 
 module _ (j : Job) where
   module _ (rules' : ℕ) (r : rules' ≡ rule_count j) where
-    pub too_many_rules : ltb 16 rules' ≡ true → Refused TooManyRulesOrCandidates ≡ first_of (take 3 (walk_checks j))
+    pub too_many_rules : ltb 16 rules' ≡ true → err TooManyRulesOrCandidates ≡ first_of (take 3 (walk_checks j))
     unfolding first_of
     too_many_rules h = sym (rw (← r, h))
 
     module _ (few : ltb 16 rules' ≡ false) where
-      pub bad_range : is_reversed j.range ≡ true → Refused NoSuchCandidate ≡ first_of (take 3 (walk_checks j))
+      pub bad_range : is_reversed j.range ≡ true → err NoSuchCandidate ≡ first_of (take 3 (walk_checks j))
       unfolding first_of
       bad_range h = sym (rw (← r, few, h))
 
       module _ (range : is_reversed j.range ≡ false) (b : Bool) (e : b ≡ not (any_without_template (rules (pairs_in j)))) where
-        pub all-templates : b ≡ true → Accepted ≡ first_of (take 3 (walk_checks j))
+        pub all-templates : b ≡ true → ok ≡ first_of (take 3 (walk_checks j))
         unfolding first_of
         all-templates h = sym (rw (← r, few, range, not_true (any_without_template (rules (pairs_in j))) (sym h ∙ e)))
 
-        pub no_template_lem : b ≡ false → Refused NoTemplate ≡ first_of (take 3 (walk_checks j))
+        pub no_template_lem : b ≡ false → err NoTemplate ≡ first_of (take 3 (walk_checks j))
         unfolding first_of
         no_template_lem h = sym (rw (← r, few, range, not_false (any_without_template (rules (pairs_in j))) (sym h ∙ e)))
 
   -- 24 over 1,024 matches, and 28
   module _ (o : Outcome) where
-    pub too_many_matches : 1024 < length (walk_matches j) → Refused TooManyRulesOrCandidates ≡ in_turn (first_of (drop 3 (walk_checks j)) ∷ o ∷ [])
+    pub too_many_matches : 1024 < length (walk_matches j) → err TooManyRulesOrCandidates ≡ in_turn (first_of (drop 3 (walk_checks j)) ∷ o ∷ [])
     unfolding first_of
     too_many_matches h = sym (turn_refuses _ _ TooManyRulesOrCandidates (rw (lt-ltb 1024 (length (walk_matches j)) h)))
 
@@ -107,20 +106,20 @@ module _ (j : Job) where
     few_matches h = sym (turn_passes _ _ (rw (le-ltb 1024 (length (walk_matches j)) h)) ∙ turn_last o)
 
     -- behind the first three
-    pub rules_pass : first_of (take 3 (walk_checks j)) ≡ Accepted
+    pub rules_pass : first_of (take 3 (walk_checks j)) ≡ ok
         → in_turn (first_of (drop 3 (walk_checks j)) ∷ o ∷ []) ≡ in_turn (first_of (walk_checks j) ∷ o ∷ [])
     rules_pass h = ap (λ (x : Outcome). in_turn (x ∷ o ∷ [])) (sym (first_pass (take 3 (walk_checks j)) (drop 3 (walk_checks j)) h))
 
-    pub rules_refuse : (r : Refusal) → first_of (take 3 (walk_checks j)) ≡ Refused r → Refused r ≡ in_turn (first_of (walk_checks j) ∷ o ∷ [])
+    pub rules_refuse : (r : Refusal) → first_of (take 3 (walk_checks j)) ≡ err r → err r ≡ in_turn (first_of (walk_checks j) ∷ o ∷ [])
     rules_refuse r h = sym (turn_refuses _ _ r (first-stop (take 3 (walk_checks j)) (drop 3 (walk_checks j)) r h))
 
   abbrev asked : List Outcome
   asked = first_of (walk_checks j) ∷ parses_outcome j.parses j.parse_text ∷ []
 
-  pub walk_refused : (r : Refusal) → in_turn (to_resolve (rules_in j) j.file) ≡ Refused r → Refused r ≡ walk_outcome j
+  pub walk_refused : (r : Refusal) → in_turn (to_resolve (rules_in j) j.file) ≡ err r → err r ≡ walk_outcome j
   walk_refused r h = sym (turns_refuse (to_resolve (rules_in j) j.file) asked r h)
 
-  module _ (h : in_turn (to_resolve (rules_in j) j.file) ≡ Accepted) where
+  module _ (h : in_turn (to_resolve (rules_in j) j.file) ≡ ok) where
     pub walk-asked : in_turn asked ≡ walk_outcome j
     walk-asked = sym (turns_pass (to_resolve (rules_in j) j.file) asked h)
 
@@ -133,7 +132,7 @@ module _ (j : Job) where
       resolved = none_fails (rules_in j) j.file h;
     }
 
-  pub walkable : (index : List ℕ) → Resolved j index → first_of (take 3 (walk_checks j)) ≡ Accepted → Walkable j index
+  pub walkable : (index : List ℕ) → Resolved j index → first_of (take 3 (walk_checks j)) ≡ ok → Walkable j index
   walkable index r h =
       let a = first-both _ _ h in
       let b = first-both _ _ a.1 in record {

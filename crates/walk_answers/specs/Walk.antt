@@ -2,7 +2,7 @@
 -- matches and is looked at after 27."
 -- Assumes nothing.
 use Rattle.std.specs.Prelude.{ℕ, not, List, [], ◌∷◌, ltb, length}
-use Rattle.errors.specs.declared.Outcome.{Outcome}
+use Rattle.errors.specs.Refusals.{Outcome}
 use Rattle.errors.specs.declared.Refusal.TheVariants.{TooManyRulesOrCandidates, NoSuchCandidate, NoTemplate}
 use Rattle.errors.specs.Refusals.{Check, first_of, in_turn}
 use Rattle.words.specs.Buffer.{used_of, filled}

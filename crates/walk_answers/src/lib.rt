@@ -2,7 +2,7 @@
 #![tactic(auto)]
 
 ghost use Rattle.std.specs.Prelude.{◌≡◌, [], take};
-ghost use Rattle.errors.specs.declared.Outcome.TheVariants.{Accepted};
+ghost use Rattle.errors.specs.Refusals.{ok};
 ghost use Rattle.errors.specs.Refusals.{first_of};
 ghost use Rattle.fragments.specs.Pairs.{pairs};
 ghost use Rattle.rules.specs.declared.stages.Stage.TheVariants.{Forms};
@@ -11,22 +11,27 @@ ghost use Rattle.job_checks.specs.Checks.{asked_of};
 ghost use Rattle.walk_answers.specs.Walk.{walk_checks};
 
 use checks::Restriction;
-use errors::{Outcome, Refusal};
+use errors::Refusal;
 use rules::numbering;
 
 // 24 over 16 rules, 25 and 27, of rules that passed 17.
-pub fn check_rules(directory: &[u32], words: &[u32], bytes: &[u8], range: Restriction) -> Outcome
-    requires { stage_outcome Forms 0 (pairs directory.now words.now bytes.now) ≡ Accepted }
+pub fn check_rules(
+    directory: &[u32],
+    words: &[u32],
+    bytes: &[u8],
+    range: Restriction,
+) -> Result<(), Refusal>
+    requires { stage_outcome Forms 0 (pairs directory.now words.now bytes.now) ≡ ok }
     ensures { result ≡ first_of (take 3 (walk_checks (asked_of directory.now words.now bytes.now [] [] range))) }
 {
     if 16 < numbering::count_rules(directory, words, bytes) {
-        return Outcome::Refused(Refusal::TooManyRulesOrCandidates);
+        return Err(Refusal::TooManyRulesOrCandidates);
     }
     if checks::is_reversed(range) {
-        return Outcome::Refused(Refusal::NoSuchCandidate);
+        return Err(Refusal::NoSuchCandidate);
     }
     if job_checks::have_templates(directory) {
-        return Outcome::Accepted;
+        return Ok(());
     }
-    Outcome::Refused(Refusal::NoTemplate)
+    Err(Refusal::NoTemplate)
 }

@@ -10,16 +10,16 @@ use lib.Dec.{leb}
 use lib.ListN.{length, take, drop, replicate, length-append, length-take, length-drop, drop_of_length-le}
 use lib.Seq.{take_at, drop_at, drop-drop, take_all, length-take-le}
 use borrow.Author.Tests.{le-leb, lt-leb, leb-true, leb-false}
-use Rattle.words.specs.declared.buffer.Placed.TheVariants.{At, Full}
+use Rattle.std.proofs.Common.{Some, None}
 use Rattle.words.specs.Buffer.{used_of, padded, filled, laid, place_after, laid_if_room}
 
 -- ---- laying
 
-inv_at : (b : Bool) (m n : ℕ) → cond b (At m) Full ≡ At n → (b ≡ true) × (m ≡ n)
+inv_at : (b : Bool) (m n : ℕ) → cond b (Some m) None ≡ Some n → (b ≡ true) × (m ≡ n)
 inv_at true m n h = (refl, cc)
 inv_at false m n h = absurd (let z : ◌≡◌ {A = ℕ} 0 1 = cc in omega arith)
 
-inv_full : (b : Bool) (m : ℕ) → cond b (At m) Full ≡ Full → b ≡ false
+inv_full : (b : Bool) (m : ℕ) → cond b (Some m) None ≡ None → b ≡ false
 inv_full true m h = absurd (let z : ◌≡◌ {A = ℕ} 0 1 = cc in omega arith)
 inv_full false m h = refl
 
@@ -27,20 +27,20 @@ module _ (d : List ℕ) (at : ℕ) (bs : List ℕ) where
   head_length : at + length bs ≤ length d → length (take at d ++ bs) ≡ at + length bs
   head_length h = length-append (take at d) bs ∙ ap (λ (k : ℕ). k + length bs) (length-take-le at d (omega arith))
 
-  pub room : at + length bs ≤ length d → (At (at + length bs) ≡ place_after (length d) at (length bs)) × (laid d at bs ≡ laid_if_room d at bs)
+  pub room : at + length bs ≤ length d → (Some (at + length bs) ≡ place_after (length d) at (length bs)) × (laid d at bs ≡ laid_if_room d at bs)
   room h = rw (le-leb (at + length bs) (length d) h) (refl, refl)
 
-  pub no_room : length d < at + length bs → (Full ≡ place_after (length d) at (length bs)) × (d ≡ laid_if_room d at bs)
+  pub no_room : length d < at + length bs → (None ≡ place_after (length d) at (length bs)) × (d ≡ laid_if_room d at bs)
   no_room h = rw (lt-leb (at + length bs) (length d) h) (refl, refl)
 
   -- it fitted
-  pub placed_at : (n : ℕ) → place_after (length d) at (length bs) ≡ At n → (at + length bs ≡ n) × (at + length bs ≤ length d) × (laid_if_room d at bs ≡ laid d at bs)
+  pub placed_at : (n : ℕ) → place_after (length d) at (length bs) ≡ Some n → (at + length bs ≡ n) × (at + length bs ≤ length d) × (laid_if_room d at bs ≡ laid d at bs)
   placed_at n h =
       let i = inv_at (leb (at + length bs) (length d)) (at + length bs) n h in
       (i.1, leb-true _ _ i.0, rw i.0)
 
   -- it did not, and nothing was written
-  pub placed_full : place_after (length d) at (length bs) ≡ Full → (length d < at + length bs) × (laid_if_room d at bs ≡ d)
+  pub placed_full : place_after (length d) at (length bs) ≡ None → (length d < at + length bs) × (laid_if_room d at bs ≡ d)
   placed_full h =
       let i = inv_full (leb (at + length bs) (length d)) (at + length bs) h in
       (leb-false _ _ i, rw i)

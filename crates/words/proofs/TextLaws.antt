@@ -51,15 +51,12 @@ part_join t a b c h k l =
 -- ---- a loop from the front
 
 pub same_step : (x y : List ℕ) (i : ℕ) → i < length x → i < length y → same_text (drop i x) (drop i y) ≡ (eqb (get_or x i 0) (get_or y i 0) && same_text (drop (i + 1) x) (drop (i + 1) y))
-unfolding same_text
 same_step x y i h k = rw (add-one, drop-cons x i 0, drop-cons y i 0)
 
 pub same_end : (x y : List ℕ) (i : ℕ) → length x ≤ i → length y ≤ i → same_text (drop i x) (drop i y) ≡ true
-unfolding same_text
 same_end x y i h k = rw (drop_of_length-le x h, drop_of_length-le y k)
 
 pub same_lengths : (x y : List ℕ) → (length x ≡ length y → ⊥) → same_text x y ≡ false
-unfolding same_text
 same_lengths [] [] n = absurd (n refl)
 same_lengths [] (b ∷ y) n = refl
 same_lengths (a ∷ x) [] n = refl
@@ -72,7 +69,6 @@ prefix_short p t h = rw (take_all (length p) t (omega arith)) (same_lengths t p 
 -- ---- two texts are the same exactly if they are equal
 
 pub same_equal : (x y : List ℕ) → same_text x y ≡ true → x ≡ y
-unfolding same_text
 same_equal [] [] h = refl
 same_equal [] (b ∷ y) h = absurd (let z : ◌≡◌ {A = ℕ} 0 1 = cc in omega arith)
 same_equal (a ∷ x) [] h = absurd (let z : ◌≡◌ {A = ℕ} 0 1 = cc in omega arith)
@@ -83,7 +79,6 @@ same_equal (a ∷ x) (b ∷ y) h =
     cc
 
 pub equal_same : (x : List ℕ) → same_text x x ≡ true
-unfolding same_text
 equal_same [] = refl
 equal_same (a ∷ x) = rw (eq-eqb a a refl, equal_same x)
 
@@ -98,7 +93,6 @@ eqb_sym a b = by (eqb a b) refl
 
 -- a text is two others in turn exactly if it begins with the first and the second is the rest
 pub same-append : (p x t : List ℕ) → same_text (p ++ x) t ≡ (has_prefix p t && same_text x (drop (length p) t))
-unfolding same_text
 same-append [] x t = refl
 same-append (a ∷ p) x [] = refl
 same-append (a ∷ p) x (b ∷ t) = rw (eqb_sym a b, same-append p x t) (sym (and_assoc (eqb b a) (same_text (take (length p) t) p) (same_text x (drop (length p) t))))

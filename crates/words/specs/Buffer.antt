@@ -1,9 +1,7 @@
 -- The output buffer, document 01, "Refusals by operation": "An output buffer is used up to its first 1,048,576 bytes; a refusal leaves these
 -- all 0, success leaves 0 after the result, and bytes beyond never change."
 -- Assumes nothing.
-use Rattle.std.specs.Prelude.{ℕ, ◌+◌, ◌-◌, ◌/◌, ◌%◌, cond, List, [], ◌∷◌, ◌++◌, leb, length, take, drop, replicate}
-use Rattle.words.specs.declared.buffer.Placed.{Placed}
-use Rattle.words.specs.declared.buffer.Placed.TheVariants.{At, Full}
+use Rattle.std.specs.Prelude.{ℕ, ◌+◌, ◌-◌, ◌/◌, ◌%◌, cond, List, [], ◌∷◌, ◌++◌, leb, length, take, drop, replicate, Option, Some, None}
 
 -- how many bytes of a buffer of n are used
 abbrev pub used_of : ℕ → ℕ
@@ -22,8 +20,8 @@ abbrev pub laid : List ℕ → ℕ → List ℕ → List ℕ
 laid d at bs = take at d ++ bs ++ drop (at + length bs) d
 
 -- n bytes laid at a place of a buffer of m bytes: the place behind them, or no room
-abbrev pub place_after : ℕ → ℕ → ℕ → Placed
-place_after m at n = cond (leb (at + n) m) (At (at + n)) Full
+abbrev pub place_after : ℕ → ℕ → ℕ → Option ℕ
+place_after m at n = cond (leb (at + n) m) (Some (at + n)) None
 
 -- the buffer then: as it was where there is no room
 abbrev pub laid_if_room : List ℕ → ℕ → List ℕ → List ℕ

@@ -1,12 +1,13 @@
 -- Texts: parts of the file's text and of the rule's, when two are the same, and the fixed byte strings of document 01 and the manual.
 -- Assumes nothing.
-use Rattle.std.specs.Prelude.{ℕ, ◌-◌, Bool, true, false, cond, ◌&&◌, List, [], ◌∷◌, eqb, leb, length, take, drop}
+use Rattle.std.specs.Prelude.{ℕ, ◌-◌, Bool, cond, ◌&&◌, List, [], ◌∷◌, eqb, leb, length, take, drop}
+use Rattle.std.specs.Cmp.Lexicographic.{pointwise}
 use Rattle.words.specs.Fields.{start_of, end_of}
 use Rattle.words.specs.declared.texts.Source.{Source}
 use Rattle.words.specs.declared.texts.Source.TheVariants.{File, Rule}
 
 -- the bytes of a text, or the words of a list, from a start up to an end; none where these are no range of it
-unfoldable pub part : List ℕ → ℕ → ℕ → List ℕ
+unfoldable pub part : {A : Type 0} → List A → ℕ → ℕ → List A
 part t start end = cond (leb start end && leb end (length t)) (take (end - start) (drop start t)) []
 
 -- "the text of an element is returned as a part of either the file text or the rule text"
@@ -18,11 +19,8 @@ abbrev pub text_of : List ℕ → List ℕ → Source → List ℕ → List ℕ
 text_of file rule source c = part (source_text file rule source) (start_of c) (end_of c)
 
 -- two texts are the same bytes
-unfoldable pub same_text : List ℕ → List ℕ → Bool
-same_text [] [] = true
-same_text [] (y ∷ ys) = false
-same_text (x ∷ xs) [] = false
-same_text (x ∷ xs) (y ∷ ys) = eqb x y && same_text xs ys
+abbrev pub same_text : List ℕ → List ℕ → Bool
+same_text x y = pointwise eqb x y
 
 -- a text begins with another
 abbrev pub has_prefix : List ℕ → List ℕ → Bool

@@ -1,40 +1,13 @@
 // The fields of each word. Every function takes a part of a word list that begins at the element, token, fact or parse asked about,
 // and is total: a word that is not there counts as 0.
-ghost use Rattle.std.specs.Prelude.{◌≡◌, drop};
-ghost use Rattle.words.specs.Texts.{part};
+ghost use Rattle.std.specs.Prelude.{◌≡◌};
 ghost use Rattle.words.specs.Fields.{word_at, kind_at, value_at, is_a_node, is_a_token, syntax_kind, size_of, start_of, end_of, token_kind, token_length, fact_sort, fact_element, parse_kind, parse_count, edit_start, edit_end, edit_length};
 
 // Word i of a part, 0 past its end.
 pub fn word(c: &[u32], i: usize) -> u32
     ensures { result ≡ word_at c.now i }
 {
-    if i < c.len() {
-        return c[i];
-    }
-    0
-}
-
-// The part that begins at word i, empty past the end.
-pub fn tail(c: &[u32], i: usize) -> &[u32]
-    ensures { result.now ≡ drop i c.now }
-{
-    if i < c.len() {
-        return &c[i..];
-    }
-    &c[..0]
-}
-
-// The words from one up to another; none where these are not a range of the part.
-pub fn part_of(c: &[u32], start: usize, end: usize) -> &[u32]
-    ensures { result.now ≡ part c.now start end }
-{
-    if end < start {
-        return &c[..0];
-    }
-    if c.len() < end {
-        return &c[..0];
-    }
-    &c[start..end]
+    c.get(i).copied().unwrap_or(0)
 }
 
 // The kind of word i.

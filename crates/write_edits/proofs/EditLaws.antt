@@ -7,7 +7,7 @@ use native.Mathlib.Omega.{arith}
 use lib.ListN.{length, take, drop, length-append}
 use lib.Seq.{length-take-le, drop-append_seam}
 use borrow.Author.Tests.{eq-eqb, ne_eqb}
-use Rattle.words.specs.declared.buffer.Placed.TheVariants as placed
+use Rattle.std.proofs.Common.{Option, Some, None}
 use Rattle.words.specs.Buffer.{laid, laid_if_room, place_after}
 use Rattle.words.proofs.BufferLaws.{room, placed_at, placed_full}
 use Rattle.rendering.specs.Events.{Event}
@@ -35,12 +35,12 @@ module _ (start end : ℕ) where
 
   -- its words are laid, with 0 for the length, or there is no room for them
   module _ (out out' : List ℕ) (at : ℕ) (e : out' ≡ laid_if_room out at (edit_words start end 0)) where
-    pub words-laid : (n : ℕ) → place_after (length out) at 12 ≡ placed.At n → (at + 12 ≡ n) × (at + 12 ≤ length out) × (take at out' ≡ take at out)
+    pub words-laid : (n : ℕ) → place_after (length out) at 12 ≡ Some n → (at + 12 ≡ n) × (at + 12 ≤ length out) × (take at out' ≡ take at out)
     words-laid n p =
         let q = placed_at out at (edit_words start end 0) n p in
         (q.0, q.1, ap (take at) (e ∙ q.2) ∙ (grows_laid out at (edit_words start end 0) q.1).same)
 
-    pub words_full : place_after (length out) at 12 ≡ placed.Full → (length out < at + 12) × (out' ≡ out)
+    pub words_full : place_after (length out) at 12 ≡ None → (length out < at + 12) × (out' ≡ out)
     words_full p = let q = placed_full out at (edit_words start end 0) p in (q.0, e ∙ q.1)
 
   -- where the text stands behind its words, and they say its length now

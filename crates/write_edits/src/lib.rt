@@ -22,8 +22,7 @@ use readying::Template;
 use render_replace::Rendered;
 use render_replace::turns::Laid;
 use rows::matches;
-use words::buffer::Placed;
-use words::fields;
+use words::{fields, slices};
 
 // The length of an edit's text, which is known now, is put in its words: they begin at a place, and the text stands behind them.
 fn put_length(out: &mut [u8], at: usize, start: u32, end: u32, laid: Laid)
@@ -86,11 +85,11 @@ fn write_edit<'a>(
         → k < W.count → HasFrames W frames.old → Answers (edit_over (node_start tree.now (field rows.now k 0))
         (node_end tree.now (field rows.now k 0)) (row_trace W k)) at out.new result.laid }
 {
-    let element = fields::tail(tree, 3 * (matches::word(rows, k, 0) as usize));
+    let element = slices::tail(tree, 3 * (matches::word(rows, k, 0) as usize));
     let start = fields::start(element) as u32;
     let end = fields::end(element) as u32;
     match edits::put_edit(out, at, start, end, 0) {
-        Placed::At(begin) => {
+        Some(begin) => {
             let r = render_replace::render_replace(
                 directory, words, bytes, fact_text, tree, text, facts, file_index, parses,
                 parse_text, rows, links, range, frames, k, was, index, spare, paths, calls, marks,
@@ -101,7 +100,7 @@ fn write_edit<'a>(
             put_length(out, at, start, end, laid);
             Rendered { laid, template }
         }
-        Placed::Full => Rendered {
+        None => Rendered {
             laid: Laid::NoRoom,
             template: was,
         },

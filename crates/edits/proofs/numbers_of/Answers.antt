@@ -3,7 +3,7 @@ use borrow.Author.Rules.{rules}
 use Rattle.edits.proofs.numbers_of.Goals as goal
 
 pub returns-in-Refused : goal.returns-in-Refused
-returns-in-Refused c = rw (c.number_of.ensures, c.in-Refused.is)
+returns-in-Refused c = rw (c.from.ensures, c.in-Refused.is)
 
 pub returns-in-Asked : goal.returns-in-Asked
 returns-in-Asked c = rw c.in-Asked.is

@@ -7,4 +7,4 @@ pub returns-in-Length : goal.returns-in-Length
 returns-in-Length c = ap code_written (sym c.in-Length.is)
 
 pub returns-in-Refused : goal.returns-in-Refused
-returns-in-Refused c = rw c.number_of.ensures (ap code_written (sym c.in-Refused.is))
+returns-in-Refused c = rw c.from.ensures (ap code_written (sym c.in-Refused.is))

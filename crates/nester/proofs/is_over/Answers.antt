@@ -14,9 +14,6 @@ use Rattle.nester.proofs.is_over.Goals as goal
 pub overflow_mul-i : goal.overflow_mul-i
 overflow_mul-i c = omega (arith, tree-size c.args.words.now (search rules))
 
-pub tail-requires : goal.tail-requires
-tail-requires c = search rules
-
 pub span_of-requires : goal.span_of-requires
 span_of-requires c = search rules
 

@@ -4,7 +4,7 @@ use mathlib.Core.Bool.{true}
 use Prim.Native.Nat.{ℕ, ◌-◌, ◌<◌}
 use native.Mathlib.Omega.{arith}
 use borrow.Author.Rules.{rules}
-use Rattle.syntax.specs.declared.parts.Range.{Range}
+use Rattle.words.specs.declared.texts.Range.{Range}
 use Rattle.syntax.specs.Trees.{size, tree, elems}
 use Rattle.syntax.proofs.Places.{tree-size}
 use Rattle.nester.specs.Nest.{holder}

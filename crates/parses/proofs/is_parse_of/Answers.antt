@@ -7,7 +7,7 @@ use Rattle.parses.proofs.is_parse_of.Goals as goal
 pub returns-then-own-kind : goal.returns-then-own-kind
 returns-then-own-kind c = let a = c.args in
     let e : parse_kind a.c.now ≡ a.kind = rw c.parse_kind-own.ensures at c.if-own-kind.true in
-    c.same_text.ensures ∙ rw (c.parse_text.ensures, eq-eqb _ _ e)
+    c.eq.ensures ∙ rw (c.parse_text.ensures, eq-eqb _ _ e)
 
 pub returns : goal.returns
 returns c = let a = c.args in

@@ -10,10 +10,6 @@ use Rattle.rerendering.proofs.measure_parts.Goals as goal
 pub loop-i-init : goal.loop-i-init
 loop-i-init c = (omega arith, c.requires.1, refl)
 
-pub part_of-requires : goal.part_of-requires
-part_of-requires c = let p = c.requires in
-    (p.0, p.2 c.loop-i.i c.loop-i-test.true)
-
 pub loop-i-preserved : goal.loop-i-preserved
 loop-i-preserved c = let l = c.loop-i in let a = c.args in
     let f = part_word a.rows.now a.frames.now a.k a.code.now a.fact_text.now in

@@ -29,12 +29,12 @@ returns-in_default c = let a = c.args in let l = c.loop-i in let ps = a.pattern.
 
 pub loop-i-preserved : goal.loop-i-preserved
 loop-i-preserved c = let a = c.args in let l = c.loop-i in let ps = a.pattern.placeholders in let n = a.pattern.count in let len : length (take n ps) ≡ n =
-    length-take-le n ps (omega (arith, c.requires.few, c.requires.places)) in let x = rw c.in-At.is at c.lay_placeholder.ensures in (
+    length-take-le n ps (omega (arith, c.requires.few, c.requires.places)) in let x = rw c.in-Some.is at c.lay_placeholder.ensures in (
       omega
           arith,
       c.lay_placeholder.auto.out ∙ l.invariant.1,
       so_far_more a.out.now a.text.now (length a.text.now) (take n ps) l.out l.at l.from l.i
-          l.invariant.2 (get_or ps l.i no_placeholder) c.in-At.m c.lay_placeholder.new.out (omega arith) (get_or-take n ps l.i no_placeholder
+          l.invariant.2 (get_or ps l.i no_placeholder) c.in-Some.m c.lay_placeholder.new.out (omega arith) (get_or-take n ps l.i no_placeholder
           (omega arith)) x,
     )
 

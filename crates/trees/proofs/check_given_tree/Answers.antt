@@ -13,7 +13,7 @@ pub enum_told-1 : goal.enum_told-1
 enum_told-1 c = search rules
 
 pub is_tree_text-right-requires : goal.is_tree_text-right-requires
-is_tree_text-right-requires c = let a = c.args in let w = a.list.now in let t = a.text.now in let x = was_read (reading w t) c.parse_pattern-parsed.result c.parse_pattern-parsed.ensures.value c.in-Accepted.is in record { text_value = read_formed w t x.elements x.is; eight = c.parse_pattern-parsed.ensures.eight }
+is_tree_text-right-requires c = let a = c.args in let w = a.list.now in let t = a.text.now in let x = was_read (reading w t) c.parse_pattern-parsed.result c.parse_pattern-parsed.ensures.value c.in-Ok.is in record { text_value = read_formed w t x.elements x.is; eight = c.parse_pattern-parsed.ensures.eight }
 
 pub check_rule_tree-requires : goal.check_rule_tree-requires
 check_rule_tree-requires c = search rules
@@ -24,11 +24,11 @@ enum_known-outcome c = search rules
 pub check_rule_tree-requires-else-given : goal.check_rule_tree-requires-else-given
 check_rule_tree-requires-else-given c = search rules
 
-pub returns-in-Accepted : goal.returns-in-Accepted
-returns-in-Accepted c = let a = c.args in let w = a.list.now in let t = a.text.now in let x = was_read (reading w t) c.parse_pattern-parsed.result c.parse_pattern-parsed.ensures.value c.in-Accepted.is in c.check_rule_tree.ensures ∙ rw (c.if-given.true, x.is, c.is_tree_text-right.ensures x.elements x.is x.shows)
+pub returns-in-Ok : goal.returns-in-Ok
+returns-in-Ok c = let a = c.args in let w = a.list.now in let t = a.text.now in let x = was_read (reading w t) c.parse_pattern-parsed.result c.parse_pattern-parsed.ensures.value c.in-Ok.is in c.check_rule_tree.ensures ∙ rw (c.if-given.true, x.is, c.is_tree_text-right.ensures x.elements x.is x.shows)
 
-pub returns-in-Refused : goal.returns-in-Refused
-returns-in-Refused c = let a = c.args in let w = a.list.now in let t = a.text.now in let x = was_refused (reading w t) c.parse_pattern-parsed.result _ c.parse_pattern-parsed.ensures.value c.in-Refused.is in rw (c.if-given.true, x)
+pub returns-in-Err : goal.returns-in-Err
+returns-in-Err c = let a = c.args in let w = a.list.now in let t = a.text.now in let x = was_refused (reading w t) c.parse_pattern-parsed.result _ c.parse_pattern-parsed.ensures.value c.in-Err.is in rw (c.if-given.true, x)
 
 pub returns-else-given : goal.returns-else-given
 returns-else-given c = rw c.if-given.false c.check_rule_tree-else-given.ensures

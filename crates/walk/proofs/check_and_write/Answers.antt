@@ -16,12 +16,12 @@ asked s = let a = s.args in
     a.parses.now a.parse_text.now a.range
 
 pub write_found-requires : goal.write_found-requires
-write_found-requires c = let p = c.requires in record { all_roomy = p.all_roomy; spare_in_bounds = p.spare_in_bounds; in_bounds = p.in_bounds; walkable = (p.walkable, c.check_parses.ensures.parses_value c.in-Accepted.is); laid = p.laid }
+write_found-requires c = let p = c.requires in record { all_roomy = p.all_roomy; spare_in_bounds = p.spare_in_bounds; in_bounds = p.in_bounds; walkable = (p.walkable, c.check_parses.ensures.parses_value c.in-Ok.is); laid = p.laid }
 
-pub returns-in-Accepted : goal.returns-in-Accepted
-returns-in-Accepted c = let w = c.write_found.ensures in let o = c.check_parses.ensures.value in
-    let e = answers_list (list_in (asked (goal.at.returns-in-Accepted c).Start) (length c.args.out.now)) c.args.out.now _ (sym c.in-Accepted.is ∙ o) in record { value = w.value ∙ e.0; out_after = w.out_after ∙ e.1 }
+pub returns-in-Ok : goal.returns-in-Ok
+returns-in-Ok c = let w = c.write_found.ensures in let o = c.check_parses.ensures.value in
+    let e = answers_list (list_in (asked (goal.at.returns-in-Ok c).Start) (length c.args.out.now)) c.args.out.now _ (sym c.in-Ok.is ∙ o) in record { value = w.value ∙ e.0; out_after = w.out_after ∙ e.1 }
 
-pub returns-in-Refused : goal.returns-in-Refused
-returns-in-Refused c = let f = c.refuse.ensures in let o = c.check_parses.ensures.value in
-    let e = answers_refused (list_in (asked (goal.at.returns-in-Refused c).Start) (length c.args.out.now)) c.args.out.now _ c.in-Refused.r (sym c.in-Refused.is ∙ o) in record { value = f.value ∙ e.0; out_after = f.out_after ∙ e.1 }
+pub returns-in-Err : goal.returns-in-Err
+returns-in-Err c = let f = c.refuse.ensures in let o = c.check_parses.ensures.value in
+    let e = answers_refused (list_in (asked (goal.at.returns-in-Err c).Start) (length c.args.out.now)) c.args.out.now _ c.in-Err.r (sym c.in-Err.is ∙ o) in record { value = f.value ∙ e.0; out_after = f.out_after ∙ e.1 }

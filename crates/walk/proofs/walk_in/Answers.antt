@@ -20,22 +20,22 @@ asked s = let a = s.args in
     a.parses.now a.parse_text.now a.range
 
 pub walk_resolved-requires : goal.walk_resolved-requires
-walk_resolved-requires c = let p = c.requires in let k = c.check_and_resolve in let e = c.in-Accepted.is in
+walk_resolved-requires c = let p = c.requires in let k = c.check_and_resolve in let e = c.in-Ok.is in
     let spare = k.auto.spare in let paths = k.auto.paths in let calls = k.auto.calls in record { all_roomy = (roomy_after _ _ _ _ _ p.all_roomy.0 (le_refl _) k.auto.index spare paths calls, p.all_roomy.1); spare_in_bounds = (omega (arith, p.spare_in_bounds.0, spare, paths), omega (arith, p.spare_in_bounds.1, spare, calls)); in_bounds = p.in_bounds; resolved = walk_resolved (asked (goal.at.walk_resolved-requires c).Start) (sym k.ensures.value ∙ e) _ (k.ensures.well_formed e) }
 
-pub returns-in-Accepted : goal.returns-in-Accepted
-returns-in-Accepted c = let k = c.check_and_resolve in let e = c.in-Accepted.is in let both = walk_answers (asked (goal.at.returns-in-Accepted c).Start) c.args.out.now _ _ _ c.requires.in_bounds.3 (walk-asked (asked (goal.at.returns-in-Accepted c).Start) (sym k.ensures.value ∙ e)) (c.walk_resolved.ensures.value, c.walk_resolved.ensures.out_after) in record { value = both.0; out_after = both.1 }
+pub returns-in-Ok : goal.returns-in-Ok
+returns-in-Ok c = let k = c.check_and_resolve in let e = c.in-Ok.is in let both = walk_answers (asked (goal.at.returns-in-Ok c).Start) c.args.out.now _ _ _ c.requires.in_bounds.3 (walk-asked (asked (goal.at.returns-in-Ok c).Start) (sym k.ensures.value ∙ e)) (c.walk_resolved.ensures.value, c.walk_resolved.ensures.out_after) in record { value = both.0; out_after = both.1 }
 
-pub returns-in-Refused : goal.returns-in-Refused
-returns-in-Refused c = let k = c.check_and_resolve in let f = c.refuse.ensures in
-    let o = walk_refused (asked (goal.at.returns-in-Refused c).Start) c.in-Refused.r (sym k.ensures.value ∙ c.in-Refused.is) in
-    let e = answers_refused (list_in (asked (goal.at.returns-in-Refused c).Start) (length c.args.out.now)) c.args.out.now _ c.in-Refused.r o in let both = walk_answers (asked (goal.at.returns-in-Refused c).Start) c.args.out.now _ _ _ c.requires.in_bounds.3 refl (f.value ∙ e.0, f.out_after ∙ e.1) in record { value = both.0; out_after = both.1 }
+pub returns-in-Err : goal.returns-in-Err
+returns-in-Err c = let k = c.check_and_resolve in let f = c.refuse.ensures in
+    let o = walk_refused (asked (goal.at.returns-in-Err c).Start) c.in-Err.r (sym k.ensures.value ∙ c.in-Err.is) in
+    let e = answers_refused (list_in (asked (goal.at.returns-in-Err c).Start) (length c.args.out.now)) c.args.out.now _ c.in-Err.r o in let both = walk_answers (asked (goal.at.returns-in-Err c).Start) c.args.out.now _ _ _ c.requires.in_bounds.3 refl (f.value ∙ e.0, f.out_after ∙ e.1) in record { value = both.0; out_after = both.1 }
 
-pub shape_of-index-in-Accepted : goal.shape_of-index-in-Accepted
-shape_of-index-in-Accepted c = c.walk_resolved.auto.index ∙ c.check_and_resolve.auto.index
+pub shape_of-index-in-Ok : goal.shape_of-index-in-Ok
+shape_of-index-in-Ok c = c.walk_resolved.auto.index ∙ c.check_and_resolve.auto.index
 
-pub shape_of-spare-in-Accepted : goal.shape_of-spare-in-Accepted
-shape_of-spare-in-Accepted c = c.walk_resolved.auto.spare ∙ c.check_and_resolve.auto.spare
+pub shape_of-spare-in-Ok : goal.shape_of-spare-in-Ok
+shape_of-spare-in-Ok c = c.walk_resolved.auto.spare ∙ c.check_and_resolve.auto.spare
 
-pub shape_of-paths-in-Accepted : goal.shape_of-paths-in-Accepted
-shape_of-paths-in-Accepted c = c.walk_resolved.auto.paths ∙ c.check_and_resolve.auto.paths
+pub shape_of-paths-in-Ok : goal.shape_of-paths-in-Ok
+shape_of-paths-in-Ok c = c.walk_resolved.auto.paths ∙ c.check_and_resolve.auto.paths

@@ -2,7 +2,7 @@
 use Rattle.exports.proofs.match_answers.case_numbers.Goals as goal
 
 pub returns-in-Refused : goal.returns-in-Refused
-returns-in-Refused c = rw (c.number_of.ensures, c.in-Refused.is)
+returns-in-Refused c = rw (c.from.ensures, c.in-Refused.is)
 
 pub returns-in-NoMatch : goal.returns-in-NoMatch
 returns-in-NoMatch c = rw c.in-NoMatch.is

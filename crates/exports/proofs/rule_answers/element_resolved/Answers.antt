@@ -4,7 +4,7 @@ use Rattle.exports.specs.Rules.{nothing_resolved, element_resolved}
 use Rattle.exports.proofs.rule_answers.element_resolved.Goals as goal
 
 pub returns-in-Refused : goal.returns-in-Refused
-returns-in-Refused c = c.no_element.ensures ∙ ap nothing_resolved c.number_of.ensures ∙ ap element_resolved (sym c.in-Refused.is)
+returns-in-Refused c = c.no_element.ensures ∙ ap nothing_resolved c.from.ensures ∙ ap element_resolved (sym c.in-Refused.is)
 
 pub returns-in-NoSuchElement : goal.returns-in-NoSuchElement
 returns-in-NoSuchElement c = c.no_element-in-NoSuchElement.ensures ∙ ap element_resolved (sym c.in-NoSuchElement.is)

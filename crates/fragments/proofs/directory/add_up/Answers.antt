@@ -32,9 +32,6 @@ overflow_sub-bytes_left c = let w = leb c.counted_before-w.result c.loop-n.words
 pub overflow_sub-n : goal.overflow_sub-n
 overflow_sub-n c = omega (arith, c.loop-n-test.true)
 
-pub tail-next-requires : goal.tail-next-requires
-tail-next-requires c = tt
-
 pub loop-n-smaller : goal.loop-n-smaller
 loop-n-smaller c = omega (arith, c.loop-n-test.true)
 

@@ -13,8 +13,5 @@ entry-requires c = search rules
 pub overflow_add-start : goal.overflow_add-start
 overflow_add-start c = search rules
 
-pub part_of-requires : goal.part_of-requires
-part_of-requires c = search rules
-
 pub returns : goal.returns
 returns c = c.part_of.ensures ∙ rw (c.counted_before-start.ensures.value, c.entry.ensures.value)

@@ -7,8 +7,5 @@ use Rattle.fragments.proofs.pairs.next_bytes.Goals as goal
 pub counted_before-requires : goal.counted_before-requires
 counted_before-requires c = search rules
 
-pub tail-requires : goal.tail-requires
-tail-requires c = search rules
-
 pub returns : goal.returns
 returns c = c.tail.ensures ∙ rw c.counted_before.ensures.value

@@ -13,24 +13,24 @@ check_asked-requires c = let a = c.args in
     let j =
     job_of a.directory.now a.words.now a.bytes.now a.fact_text.now f
     a.parses.now a.parse_text.now a.candidates.now a.range in
-    let e = c.in-Accepted.is in record { well_formed = ((c.check_and_resolve.ensures.well_formed e).0, forms_passed (rules_in j) f (sym c.check_and_resolve.ensures.value ∙ e)); in_bounds = c.requires.in_bounds }
+    let e = c.in-Ok.is in record { well_formed = ((c.check_and_resolve.ensures.well_formed e).0, forms_passed (rules_in j) f (sym c.check_and_resolve.ensures.value ∙ e)); in_bounds = c.requires.in_bounds }
 
-pub returns-in-Accepted : goal.returns-in-Accepted
-returns-in-Accepted c = let a = c.args in
+pub returns-in-Ok : goal.returns-in-Ok
+returns-in-Ok c = let a = c.args in
     let f = file_of a.tree.now a.text.now a.facts.now in
     let j =
     job_of a.directory.now a.words.now a.bytes.now a.fact_text.now f
     a.parses.now a.parse_text.now a.candidates.now a.range in
-    let e = c.in-Accepted.is in
+    let e = c.in-Ok.is in
     let h = sym c.check_and_resolve.ensures.value ∙ e in record {
       value = c.check_asked.ensures.value ∙ checks_asked j h;
       checked = λ g. job_checked j h _ _ (c.check_and_resolve.ensures.well_formed e)
           (sym c.check_asked.ensures.value ∙ g) (c.check_asked.ensures.parses_value g);
     }
 
-pub returns-in-Refused : goal.returns-in-Refused
-returns-in-Refused c = let a = c.args in
+pub returns-in-Err : goal.returns-in-Err
+returns-in-Err c = let a = c.args in
     let f = file_of a.tree.now a.text.now a.facts.now in
     let j =
     job_of a.directory.now a.words.now a.bytes.now a.fact_text.now f
-    a.parses.now a.parse_text.now a.candidates.now a.range in record { value = checks_refuse j _ (sym c.check_and_resolve.ensures.value ∙ c.in-Refused.is); checked = λ e. absurd (refused_not e) }
+    a.parses.now a.parse_text.now a.candidates.now a.range in record { value = checks_refuse j _ (sym c.check_and_resolve.ensures.value ∙ c.in-Err.is); checked = λ e. absurd (refused_not e) }

@@ -5,12 +5,12 @@ use mathlib.Core.Bool.{true, false}
 use mathlib.Core.Path.{◌≡◌, refl}
 use Rattle.parsing.proofs.patterns.take_named.Goals as goal
 
-pub returns-in-Accepted : goal.returns-in-Accepted
-returns-in-Accepted c = let k = rw c.in-Accepted.is at c.end_placeholder-e.ensures in let i : is_ident c.args.name ≡ true = eq-eqb _ _ c.if-name-eq1.true in
+pub returns-in-Ok : goal.returns-in-Ok
+returns-in-Ok c = let k = rw c.in-Ok.is at c.end_placeholder-e.ensures in let i : is_ident c.args.name ≡ true = eq-eqb _ _ c.if-name-eq1.true in
     (refl, k.0, k.1, k.2, λ acc ns h l. let q = k.3 acc ns h l in (q.0, rw i q.1))
 
-pub returns-in-Refused : goal.returns-in-Refused
-returns-in-Refused c = let k = rw c.in-Refused.is at c.end_placeholder-e.ensures in let i : is_ident c.args.name ≡ true = eq-eqb _ _ c.if-name-eq1.true in
+pub returns-in-Err : goal.returns-in-Err
+returns-in-Err c = let k = rw c.in-Err.is at c.end_placeholder-e.ensures in let i : is_ident c.args.name ≡ true = eq-eqb _ _ c.if-name-eq1.true in
     λ acc ns h. rw i (k acc ns h)
 
 pub returns : goal.returns

@@ -2,7 +2,7 @@
 use mathlib.Core.Path.{◌≡◌, refl, sym, subst, ◌∙◌}
 use mathlib.Core.Bool.{true}
 use Prim.Native.Nat.{ℕ}
-use Rattle.words.specs.declared.buffer.Placed.TheVariants as placed
+use Rattle.std.proofs.Common.{Option, Some, None}
 use Rattle.checks.specs.Given.{file_of, rules_of, is_node_of}
 use Rattle.render_replace.proofs.TurnLaws.{none_at_hand, ended_some, ended-none}
 use Rattle.render_replace.proofs.turns.end_row.Goals as goal
@@ -20,22 +20,22 @@ put_comments-placed-requires c = let a = c.args in let p = c.requires.file_of in
 pub go_back-next-requires : goal.go_back-next-requires
 go_back-next-requires c = c.requires.k_bound
 
-pub returns-in-At : goal.returns-in-At
-returns-in-At c = let a = c.args in let r = c.put_comments-placed in record {
+pub returns-in-Some : goal.returns-in-Some
+returns-in-Some c = let a = c.args in let r = c.put_comments-placed in record {
   at_hand = none_at_hand c.no_template-none.ensures;
   ends_row = ended_some (rules_of a.directory.now a.words.now a.bytes.now a.fact_bytes) (file_of a.tree.now a.text.now a.facts.now)
-      a.range a.rows.now a.links.now a.k0 a.k a.out.now a.at _ r.new.out (placed.At c.in-At.behind) _ _
+      a.range a.rows.now a.links.now a.k0 a.k a.out.now a.at _ r.new.out (Some c.in-Some.behind) _ _
       (sym c.link.ensures ∙ c.if-link-eq1.true) c.word-number.ensures c.word-node.ensures
-      (rw c.in-At.is at r.ensures) c.go_back-next.ensures;
+      (rw c.in-Some.is at r.ensures) c.go_back-next.ensures;
 }
 
-pub returns-in-Full : goal.returns-in-Full
-returns-in-Full c = let a = c.args in let r = c.put_comments-placed in record {
+pub returns-in-None : goal.returns-in-None
+returns-in-None c = let a = c.args in let r = c.put_comments-placed in record {
   at_hand = none_at_hand c.no_template-none.ensures;
   ends_row = ended_some (rules_of a.directory.now a.words.now a.bytes.now a.fact_bytes) (file_of a.tree.now a.text.now a.facts.now)
-      a.range a.rows.now a.links.now a.k0 a.k a.out.now a.at _ r.new.out placed.Full _ _
+      a.range a.rows.now a.links.now a.k0 a.k a.out.now a.at _ r.new.out None _ _
       (sym c.link.ensures ∙ c.if-link-eq1.true) c.word-number.ensures c.word-node.ensures
-      (rw c.in-Full.is at r.ensures) refl;
+      (rw c.in-None.is at r.ensures) refl;
 }
 
 pub go_back-next-requires-2 : goal.go_back-next-requires-2

@@ -22,13 +22,13 @@ laid_is c =
     c.put.result) (p.ensures ∙ rw (c.word-from.ensures.0, c.start.ensures, c.tail-element.ensures, c.word.ensures)) (lays_put a.out.now a.at p.result.now c.put.result c.put.new.out c.put.ensures.value c.put.ensures.out_after)
 
 pub enter-requires : goal.enter-requires
-enter-requires c = let g = rw c.in-At.is at (laid_is (goal.at.enter-requires c).After-put) in let n : length c.pass_row.new.frames ≡ length c.args.frames.now =
+enter-requires c = let g = rw c.in-Some.is at (laid_is (goal.at.enter-requires c).After-put) in let n : length c.pass_row.new.frames ≡ length c.args.frames.now =
     ap length c.pass_row.ensures ∙ (passes_row c.args.frames.now c.args.k c.args.j c.end.result (omega (arith, c.requires))).size
     in (omega (arith, c.requires), omega (arith, n, c.requires), omega (arith, g.ends, g.size, c.requires))
 
-pub returns-in-At : goal.returns-in-At
-returns-in-At c = record {
-  lays = rw c.in-At.is at (laid_is (goal.at.returns-in-At c).After-put);
+pub returns-in-Some : goal.returns-in-Some
+returns-in-Some c = record {
+  lays = rw c.in-Some.is at (laid_is (goal.at.returns-in-Some c).After-put);
   frames_then = c.enter.ensures ∙ rw (
     c.pass_row.ensures,
     c.end.ensures,
@@ -37,5 +37,5 @@ returns-in-At c = record {
   );
 }
 
-pub returns-in-Full : goal.returns-in-Full
-returns-in-Full c = record { lays = rw c.in-Full.is at (laid_is (goal.at.returns-in-Full c).After-put); frames_then = refl }
+pub returns-in-None : goal.returns-in-None
+returns-in-None c = record { lays = rw c.in-None.is at (laid_is (goal.at.returns-in-None c).After-put); frames_then = refl }

@@ -36,26 +36,26 @@ kept c =
     )) (omega (arith, c.requires.frames_for, c.if-j-end.true, p.shows.last, p.shows.few)) r.ensures.lays
     r.ensures.frames_then
 
-pub returns-in-At : goal.returns-in-At
-returns-in-At c = let n = c.next_nested-j in let a = c.args in let p = c.requires.at_captured.1 in let x = found (goal.at.returns-in-At c).After-next_nested-j in let r = c.put_before in let slot =
+pub returns-in-Some : goal.returns-in-Some
+returns-in-Some c = let n = c.next_nested-j in let a = c.args in let p = c.requires.at_captured.1 in let x = found (goal.at.returns-in-Some c).After-next_nested-j in let r = c.put_before in let slot =
     c.word-slot.result - 1 in record {
-      keeps = kept (goal.at.returns-in-At c).After-put_before;
+      keeps = kept (goal.at.returns-in-Some c).After-put_before;
       captured_left = λ W q. before_nests q slot x.0 n.result x.1 x.2 c.if-j-end.true (n.ensures.1
-          c.if-j-end.true) r.new.frames r.new.out c.in-At.behind (omega (
+          c.if-j-end.true) r.new.frames r.new.out c.in-Some.behind (omega (
             arith,
             c.requires.frames_for,
             p.shows.inside,
             p.shows.few,
-          )) (omega (arith, c.requires.frames_for, c.if-j-end.true, p.shows.last, p.shows.few)) (rw c.in-At.is at r.ensures.lays) (rw
-          c.in-At.is at r.ensures.frames_then);
+          )) (omega (arith, c.requires.frames_for, c.if-j-end.true, p.shows.last, p.shows.few)) (rw c.in-Some.is at r.ensures.lays) (rw
+          c.in-Some.is at r.ensures.frames_then);
     }
 
-pub returns-in-Full : goal.returns-in-Full
-returns-in-Full c = let n = c.next_nested-j in let x = found (goal.at.returns-in-Full c).After-next_nested-j in let r = c.put_before in let slot = c.word-slot.result - 1 in record {
-  keeps = kept (goal.at.returns-in-Full c).After-put_before;
+pub returns-in-None : goal.returns-in-None
+returns-in-None c = let n = c.next_nested-j in let x = found (goal.at.returns-in-None c).After-next_nested-j in let r = c.put_before in let slot = c.word-slot.result - 1 in record {
+  keeps = kept (goal.at.returns-in-None c).After-put_before;
   captured_left = λ W q. before_short
       q slot x.0 n.result x.1 x.2 c.if-j-end.true (n.ensures.1 c.if-j-end.true) r.new.out (rw
-      c.in-Full.is at r.ensures.lays);
+      c.in-None.is at r.ensures.lays);
 }
 
 pub returns : goal.returns

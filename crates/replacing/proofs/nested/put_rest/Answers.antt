@@ -19,7 +19,7 @@ laid_is c =
     a.out.now a.at p.result.now c.put.result c.put.new.out c.put.ensures.value c.put.ensures.out_after)
 
 pub end_slot-requires : goal.end_slot-requires
-end_slot-requires c = let g = rw c.in-At.is at (laid_is (goal.at.end_slot-requires c).After-put) in record {
+end_slot-requires c = let g = rw c.in-Some.is at (laid_is (goal.at.end_slot-requires c).After-put) in record {
   k_bound = (
     omega (arith, c.requires),
     omega (arith, c.requires),
@@ -34,8 +34,8 @@ end_slot-requires c = let g = rw c.in-At.is at (laid_is (goal.at.end_slot-requir
   k_bound_2 = (omega (arith, c.requires), omega (arith, c.requires));
 }
 
-pub returns-in-At : goal.returns-in-At
-returns-in-At c = record { lays = rw c.in-At.is at (laid_is (goal.at.returns-in-At c).After-put); frames_then = c.end_slot.ensures }
+pub returns-in-Some : goal.returns-in-Some
+returns-in-Some c = record { lays = rw c.in-Some.is at (laid_is (goal.at.returns-in-Some c).After-put); frames_then = c.end_slot.ensures }
 
-pub returns-in-Full : goal.returns-in-Full
-returns-in-Full c = record { lays = rw c.in-Full.is at (laid_is (goal.at.returns-in-Full c).After-put); frames_then = refl }
+pub returns-in-None : goal.returns-in-None
+returns-in-None c = record { lays = rw c.in-None.is at (laid_is (goal.at.returns-in-None c).After-put); frames_then = refl }

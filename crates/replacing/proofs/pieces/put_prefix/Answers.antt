@@ -8,16 +8,16 @@ returns-then-receiver c = rw c.if-receiver.true (grows_none c.args.out.now c.arg
 
 pub put_stars-requires : goal.put_stars-requires
 put_stars-requires c = let l = c.put_reference in
-    let g = rw c.in-At.is at l.ensures in g.ends
+    let g = rw c.in-Some.is at l.ensures in g.ends
 
-pub returns-in-At : goal.returns-in-At
-returns-in-At c = let a = c.args in
+pub returns-in-Some : goal.returns-in-Some
+returns-in-Some c = let a = c.args in
     let l = c.put_reference in
     rw (c.if-receiver.false, ← c.binding-stars.ensures, ← c.binding-kind.ensures)
-    (lays_then a.out.now l.new.out c.put_stars.new.out a.at c.in-At.behind _ _ c.put_stars.result
-    (rw c.in-At.is at l.ensures) c.put_stars.ensures)
+    (lays_then a.out.now l.new.out c.put_stars.new.out a.at c.in-Some.behind _ _ c.put_stars.result
+    (rw c.in-Some.is at l.ensures) c.put_stars.ensures)
 
-pub returns-in-Full : goal.returns-in-Full
-returns-in-Full c = let a = c.args in let l = c.put_reference in
+pub returns-in-None : goal.returns-in-None
+returns-in-None c = let a = c.args in let l = c.put_reference in
     rw (c.if-receiver.false, ← c.binding-stars.ensures, ← c.binding-kind.ensures)
-    (short_then a.out.now l.new.out a.at _ _ (rw c.in-Full.is at l.ensures))
+    (short_then a.out.now l.new.out a.at _ _ (rw c.in-None.is at l.ensures))

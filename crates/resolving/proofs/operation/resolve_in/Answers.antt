@@ -17,14 +17,14 @@ enum_told-1 c = search goal_rules
 pub resolve_pairs-requires : goal.resolve_pairs-requires
 resolve_pairs-requires c = let a = c.args in record {
   bytes_value = trees_pass TreesWithFacts a.fact_bytes a.directory.now a.words.now a.bytes.now (sym
-      c.check_rules.ensures ∙ c.in-Accepted.is);
+      c.check_rules.ensures ∙ c.in-Ok.is);
   all_roomy = c.requires;
 }
 
 pub ask-requires : goal.ask-requires
 ask-requires c = let a = c.args in let k = c.resolve_pairs.auto in record {
   bytes_value = (
-    trees_pass TreesWithFacts a.fact_bytes a.directory.now a.words.now a.bytes.now (sym c.check_rules.ensures ∙ c.in-Accepted.is),
+    trees_pass TreesWithFacts a.fact_bytes a.directory.now a.words.now a.bytes.now (sym c.check_rules.ensures ∙ c.in-Ok.is),
     not_true _ (sym c.if-resolve_pairs.true ∙
         c.resolve_pairs.ensures),
   );
@@ -46,7 +46,7 @@ shape_of-calls-then-resolve_pairs c = search goal_rules
 
 pub returns-then-resolve_pairs : goal.returns-then-resolve_pairs
 returns-then-resolve_pairs c = let a = c.args in c.ask.ensures ∙ sym (rw (resolve_passes a.fact_bytes a.directory.now a.words.now a.bytes.now (sym
-    c.check_rules.ensures ∙ c.in-Accepted.is) (not_true _ (sym c.if-resolve_pairs.true ∙ c.resolve_pairs.ensures))))
+    c.check_rules.ensures ∙ c.in-Ok.is) (not_true _ (sym c.if-resolve_pairs.true ∙ c.resolve_pairs.ensures))))
 
 pub enum_known-r : goal.enum_known-r
 enum_known-r c = search goal_rules
@@ -65,8 +65,8 @@ shape_of-calls c = search goal_rules
 
 pub returns-else-resolve_pairs : goal.returns-else-resolve_pairs
 returns-else-resolve_pairs c = let a = c.args in sym (rw (resolve_fails a.fact_bytes a.directory.now a.words.now a.bytes.now (sym
-    c.check_rules.ensures ∙ c.in-Accepted.is) (not_false _ (sym c.if-resolve_pairs.false ∙ c.resolve_pairs.ensures))))
+    c.check_rules.ensures ∙ c.in-Ok.is) (not_false _ (sym c.if-resolve_pairs.false ∙ c.resolve_pairs.ensures))))
 
-pub returns-in-Refused : goal.returns-in-Refused
-returns-in-Refused c = let a = c.args in sym (rw (resolve_refused a.fact_bytes a.directory.now a.words.now a.bytes.now _ (sym
-    c.check_rules.ensures ∙ c.in-Refused.is)))
+pub returns-in-Err : goal.returns-in-Err
+returns-in-Err c = let a = c.args in sym (rw (resolve_refused a.fact_bytes a.directory.now a.words.now a.bytes.now _ (sym
+    c.check_rules.ensures ∙ c.in-Err.is)))

@@ -1,6 +1,7 @@
 -- `rules::building::build_rules` meets its contract.
 use mathlib.Core.Path.{◌≡◌, ◌∙◌, sym}
-use Rattle.errors.specs.declared.Outcome.TheVariants.{Accepted, Refused}
+use Rattle.std.proofs.Common.{Ok, Err}
+use Rattle.errors.specs.Refusals.{ok, err}
 use Rattle.rules.specs.Building.{build_outcome}
 use borrow.Author.Rules.{rules}
 use Rattle.std.proofs.Common.{rules}
@@ -21,10 +22,10 @@ rule_at-found-requires c = search rules
 pub enum_known-r : goal.enum_known-r
 enum_known-r c = search rules
 
-pub returns-in-Accepted : goal.returns-in-Accepted
-returns-in-Accepted c = let a = c.args in let e : build_outcome a.directory.now a.words.now a.bytes.now ≡ Accepted = sym c.check_rules.ensures ∙
-    c.in-Accepted.is in sym (rw (e, ← c.count_rules-count.ensures, ← c.rule_at-found.ensures))
+pub returns-in-Ok : goal.returns-in-Ok
+returns-in-Ok c = let a = c.args in let e : build_outcome a.directory.now a.words.now a.bytes.now ≡ ok = sym c.check_rules.ensures ∙
+    c.in-Ok.is in sym (rw (e, ← c.count_rules-count.ensures, ← c.rule_at-found.ensures))
 
-pub returns-in-Refused : goal.returns-in-Refused
-returns-in-Refused c = let a = c.args in let e : build_outcome a.directory.now a.words.now a.bytes.now ≡ Refused c.in-Refused.r = sym
-    c.check_rules.ensures ∙ c.in-Refused.is in sym (rw e)
+pub returns-in-Err : goal.returns-in-Err
+returns-in-Err c = let a = c.args in let e : build_outcome a.directory.now a.words.now a.bytes.now ≡ err c.in-Err.r = sym
+    c.check_rules.ensures ∙ c.in-Err.is in sym (rw e)

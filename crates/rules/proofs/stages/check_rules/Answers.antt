@@ -14,33 +14,33 @@ check_stage-requires c = search rules
 pub enum_told-1 : goal.enum_told-1
 enum_told-1 c = search rules
 
-pub check_stage-requires-in-Accepted : goal.check_stage-requires-in-Accepted
-check_stage-requires-in-Accepted c = search rules
+pub check_stage-requires-in-Ok : goal.check_stage-requires-in-Ok
+check_stage-requires-in-Ok c = search rules
 
-pub enum_told-in-Accepted-check_stage : goal.enum_told-in-Accepted-check_stage
-enum_told-in-Accepted-check_stage c = search rules
+pub enum_told-in-Ok-check_stage : goal.enum_told-in-Ok-check_stage
+enum_told-in-Ok-check_stage c = search rules
 
-pub check_stage-requires-in-Accepted-check_stage : goal.check_stage-requires-in-Accepted-check_stage
-check_stage-requires-in-Accepted-check_stage c = search rules
+pub check_stage-requires-in-Ok-check_stage : goal.check_stage-requires-in-Ok-check_stage
+check_stage-requires-in-Ok-check_stage c = search rules
 
 pub enum_known-r : goal.enum_known-r
 enum_known-r c = search rules
 
-pub enum_known-r-in-Refused-check_stage : goal.enum_known-r-in-Refused-check_stage
-enum_known-r-in-Refused-check_stage c = search rules
+pub enum_known-r-in-Err-check_stage : goal.enum_known-r-in-Err-check_stage
+enum_known-r-in-Err-check_stage c = search rules
 
-pub returns-in-Accepted-check_stage : goal.returns-in-Accepted-check_stage
-returns-in-Accepted-check_stage c = let a = c.args in c.check_stage-in-Accepted-check_stage.ensures ∙ sym (forms_decide a.trees a.fact_bytes a.directory.now a.words.now a.bytes.now (sym c.is_directory.ensures ∙ c.if-is_directory.true) (sym c.check_stage.ensures ∙ c.in-Accepted.is) (sym
-    c.check_stage-in-Accepted.ensures ∙ c.in-Accepted-check_stage.is))
+pub returns-in-Ok-check_stage : goal.returns-in-Ok-check_stage
+returns-in-Ok-check_stage c = let a = c.args in c.check_stage-in-Ok-check_stage.ensures ∙ sym (forms_decide a.trees a.fact_bytes a.directory.now a.words.now a.bytes.now (sym c.is_directory.ensures ∙ c.if-is_directory.true) (sym c.check_stage.ensures ∙ c.in-Ok.is) (sym
+    c.check_stage-in-Ok.ensures ∙ c.in-Ok-check_stage.is))
 
-pub returns-in-Refused-check_stage : goal.returns-in-Refused-check_stage
-returns-in-Refused-check_stage c = let a = c.args in sym (trees_refuse a.trees a.fact_bytes a.directory.now a.words.now a.bytes.now _ (sym
-    c.is_directory.ensures ∙ c.if-is_directory.true) (sym c.check_stage.ensures ∙ c.in-Accepted.is) (sym c.check_stage-in-Accepted.ensures ∙
-    c.in-Refused-check_stage.is))
+pub returns-in-Err-check_stage : goal.returns-in-Err-check_stage
+returns-in-Err-check_stage c = let a = c.args in sym (trees_refuse a.trees a.fact_bytes a.directory.now a.words.now a.bytes.now _ (sym
+    c.is_directory.ensures ∙ c.if-is_directory.true) (sym c.check_stage.ensures ∙ c.in-Ok.is) (sym c.check_stage-in-Ok.ensures ∙
+    c.in-Err-check_stage.is))
 
-pub returns-in-Refused : goal.returns-in-Refused
-returns-in-Refused c = let a = c.args in sym (lists_refuse a.trees a.fact_bytes a.directory.now a.words.now a.bytes.now _ (sym
-    c.is_directory.ensures ∙ c.if-is_directory.true) (sym c.check_stage.ensures ∙ c.in-Refused.is))
+pub returns-in-Err : goal.returns-in-Err
+returns-in-Err c = let a = c.args in sym (lists_refuse a.trees a.fact_bytes a.directory.now a.words.now a.bytes.now _ (sym
+    c.is_directory.ensures ∙ c.if-is_directory.true) (sym c.check_stage.ensures ∙ c.in-Err.is))
 
 pub returns-else-is_directory : goal.returns-else-is_directory
 returns-else-is_directory c = let a = c.args in sym (no_directory a.trees a.fact_bytes a.directory.now a.words.now a.bytes.now (sym

@@ -28,7 +28,7 @@ enum_told-1 c = search rules
 
 pub is_tree_text-right-requires : goal.is_tree_text-right-requires
 is_tree_text-right-requires c = let w = c.list-list.result.now in let t = c.text-text.result.now in let q = c.parse_pattern-parsed in let x = was_read (reading w t) q.result
-    q.ensures.value c.in-Accepted.is in record { text_value = read_formed w t x.elements x.is; eight = q.ensures.eight }
+    q.ensures.value c.in-Ok.is in record { text_value = read_formed w t x.elements x.is; eight = q.ensures.eight }
 
 pub check_forms-requires : goal.check_forms-requires
 check_forms-requires c = search rules
@@ -39,16 +39,16 @@ enum_known-outcome c = search rules
 pub check_forms-requires-else-is_given : goal.check_forms-requires-else-is_given
 check_forms-requires-else-is_given c = search rules
 
-pub returns-in-Accepted : goal.returns-in-Accepted
-returns-in-Accepted c = let a = c.args in let w = c.list-list.result.now in let t = c.text-text.result.now in let q = c.parse_pattern-parsed in let x = was_read (reading w
-    t) q.result q.ensures.value c.in-Accepted.is in let p : Pair = pair_of a.row.now a.words.now a.bytes.now in
+pub returns-in-Ok : goal.returns-in-Ok
+returns-in-Ok c = let a = c.args in let w = c.list-list.result.now in let t = c.text-text.result.now in let q = c.parse_pattern-parsed in let x = was_read (reading w
+    t) q.result q.ensures.value c.in-Ok.is in let p : Pair = pair_of a.row.now a.words.now a.bytes.now in
     c.check_forms.ensures ∙ rw (c.is_tree_text-right.ensures x.elements x.is x.shows) (sym (side_read a.looked a.fact_bytes p a.side
     w t c.code-code.result.now x.elements c.list-list.ensures c.text-text.ensures c.code-code.ensures (sym c.is_given.ensures ∙
     c.if-is_given.true) x.is))
 
-pub returns-in-Refused : goal.returns-in-Refused
-returns-in-Refused c = let a = c.args in let w = c.list-list.result.now in let t = c.text-text.result.now in let q = c.parse_pattern-parsed in let x = was_refused
-    (reading w t) q.result _ q.ensures.value c.in-Refused.is in let p : Pair = pair_of a.row.now a.words.now a.bytes.now in
+pub returns-in-Err : goal.returns-in-Err
+returns-in-Err c = let a = c.args in let w = c.list-list.result.now in let t = c.text-text.result.now in let q = c.parse_pattern-parsed in let x = was_refused
+    (reading w t) q.result _ q.ensures.value c.in-Err.is in let p : Pair = pair_of a.row.now a.words.now a.bytes.now in
     sym (side-refused a.looked a.fact_bytes p a.side w t _ c.list-list.ensures c.text-text.ensures (sym c.is_given.ensures ∙
     c.if-is_given.true) x)
 

@@ -42,7 +42,7 @@ loop-i-preserved c = let a = c.args in let l = c.loop-i in let ps = a.pattern.pl
 
 pub returns : goal.returns
 returns c = let a = c.args in let l = c.loop-i in let ps = a.pattern.placeholders in let n = a.pattern.count in let len : length (take n ps) ≡ n = length-take-le
-    n ps (omega (arith, c.requires.few, c.requires.places)) in let r : c.same_text.result ≡ same_text (part a.text.now l.from a.end) (drop
+    n ps (omega (arith, c.requires.few, c.requires.places)) in let r : c.eq.result ≡ same_text (part a.text.now l.from a.end) (drop
     l.at a.code.now) = rw (c.part_of.ensures, c.part_of-2.ensures, part-rest a.code.now l.at l.invariant.1) at
-    c.same_text.ensures in r ∙ sym (l.invariant.2 ∙ left_end a.text.now a.end (take n ps) a.code.now l.at l.from l.i (omega
+    c.eq.ensures in r ∙ sym (l.invariant.2 ∙ left_end a.text.now a.end (take n ps) a.code.now l.at l.from l.i (omega
     arith))

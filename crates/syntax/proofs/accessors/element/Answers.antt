@@ -12,9 +12,6 @@ use Rattle.syntax.proofs.accessors.element.Goals as goal
 pub overflow_mul-number : goal.overflow_mul-number
 overflow_mul-number c = search rules
 
-pub tail-c-requires : goal.tail-c-requires
-tail-c-requires c = search rules
-
 pub span_of-n-requires : goal.span_of-n-requires
 span_of-n-requires c = search rules
 

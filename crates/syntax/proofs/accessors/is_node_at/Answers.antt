@@ -8,9 +8,6 @@ use Rattle.syntax.proofs.accessors.is_node_at.Goals as goal
 pub overflow_mul-number : goal.overflow_mul-number
 overflow_mul-number c = search rules
 
-pub tail-requires : goal.tail-requires
-tail-requires c = search rules
-
 pub is_node_in-requires : goal.is_node_in-requires
 is_node_in-requires c = search rules
 

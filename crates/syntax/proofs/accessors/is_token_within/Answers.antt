@@ -17,9 +17,6 @@ use Rattle.syntax.proofs.accessors.is_token_within.Goals as goal
 pub overflow_mul-number : goal.overflow_mul-number
 overflow_mul-number c = search rules
 
-pub tail-c-requires : goal.tail-c-requires
-tail-c-requires c = search rules
-
 pub is_node-requires : goal.is_node-requires
 is_node-requires c = search rules
 
@@ -31,9 +28,6 @@ overflow_add-number c = omega (arith, c.size.ensures)
 
 pub overflow_mul-inner : goal.overflow_mul-inner
 overflow_mul-inner c = search rules
-
-pub tail-requires : goal.tail-requires
-tail-requires c = search rules
 
 pub is_token_in-requires : goal.is_token_in-requires
 is_token_in-requires c = search rules

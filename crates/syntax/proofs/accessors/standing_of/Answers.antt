@@ -19,9 +19,6 @@ loop-at-init c = (reach_start c.args.words.now c.args.number (search rules) (ome
 pub overflow_mul-at : goal.overflow_mul-at
 overflow_mul-at c = omega (arith, c.loop-at-test.true, c.if-words-number.false)
 
-pub tail-requires : goal.tail-requires
-tail-requires c = tt
-
 pub span_of-requires : goal.span_of-requires
 span_of-requires c = tt
 

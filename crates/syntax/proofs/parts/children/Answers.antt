@@ -28,8 +28,5 @@ slice_bounds-result-end c = search rules
 pub returns-then-n-c : goal.returns-then-n-c
 returns-then-n-c c = rw c.span_of-n.ensures
 
-pub tail-requires : goal.tail-requires
-tail-requires c = search rules
-
 pub returns : goal.returns
 returns c = let l = c.args.c.now in c.tail.ensures ∙ sym (take_all (span l * 3 - 3) (drop 3 l) (omega (arith, length-drop 3 l, c.span_of-n.ensures)))

@@ -12,8 +12,5 @@ span_of-requires c = search rules
 pub overflow_mul-span_of : goal.overflow_mul-span_of
 overflow_mul-span_of c = omega (arith, c.span_of.ensures, span_few c.args.c.now)
 
-pub tail-requires : goal.tail-requires
-tail-requires c = search rules
-
 pub returns : goal.returns
 returns c = c.tail.ensures ∙ rw c.span_of.ensures
