@@ -5,64 +5,45 @@ ghost use Rattle.std.specs.Prelude.{◌≡◌, List, [], ℕ, ◌≤◌, length}
 ghost use Rattle.words.specs.Buffer.{filled};
 ghost use Rattle.captures.specs.Attempts.{Attempt};
 ghost use Rattle.captures.specs.Effects.{nothing, Gives};
-ghost use Rattle.answers.specs.Answers.{refused_match, answer_of, bytes_of};
+ghost use Rattle.answers.specs.Answers.{answer_of, bytes_of};
 
-use captures::{Answer, Binding};
+use captures::{Binding, State};
 use errors::Refusal;
 use words::buffer;
 
-// What came of matching: a match has the length of its comments.
-#[derive(Clone, Copy)]
-pub enum Case {
-    Refused(Refusal),
-    NoMatch,
-    Matched(usize),
-}
-
-// The answer: what came of it, and the bindings in pattern order.
+// A match: the length of its comments, and the bindings in pattern order.
 #[derive(Clone, Copy)]
 pub struct NodeMatch {
-    pub case: Case,
-    pub bindings: [Binding; 8],
+    pub comments_length: usize,
+    pub bindings: [Option<Binding>; 8],
 }
 
 // A refusal, which leaves the buffer all 0.
-pub fn refuse(refusal: Refusal, out: &mut [u8]) -> NodeMatch
-    requires { length out.old ≤ 1048576 }
-    ensures value { result ≡ refused_match refusal }
+pub fn refuse(refusal: Refusal, out: &mut [u8]) -> Result<Option<NodeMatch>, Refusal>
+    ensures value { result ≡ Err refusal }
     ensures out_after { out.new ≡ filled out.old [] }
 {
     buffer::finish(out, 0);
-    let bindings = captures::start().bindings;
-    NodeMatch {
-        case: Case::Refused(refusal),
-        bindings,
-    }
+    Err(refusal)
 }
 
 // The answer of an attempt that was made with this buffer.
-pub fn answer(r: Answer, out: &mut [u8]) -> NodeMatch
+pub fn answer(state: Option<State>, out: &mut [u8]) -> Result<Option<NodeMatch>, Refusal>
     requires { length out.old ≤ 1048576 }
-    ensures value { (a : Attempt) (before : List ℕ) → Gives a nothing before r out.old → result ≡ answer_of (length before) a }
-    ensures out_after { (a : Attempt) (before : List ℕ) → Gives a nothing before r out.old → out.new ≡ filled before (bytes_of (length before) a) }
+    ensures value { (a : Attempt) (before : List ℕ) → Gives a nothing before state out.old → result ≡ answer_of (length before) a }
+    ensures out_after { (a : Attempt) (before : List ℕ) → Gives a nothing before state out.old → out.new ≡ filled before (bytes_of (length before) a) }
 {
-    let state = r.state;
-    if r.ok {
-        let noted = state.noted;
-        if noted <= out.len() {
-            buffer::finish(out, noted);
-            let bindings = state.bindings;
-            return NodeMatch {
-                case: Case::Matched(noted),
-                bindings,
-            };
-        }
+    let Some(state) = state else {
+        buffer::finish(out, 0);
+        return Ok(None);
+    };
+    if out.len() < state.noted {
         return refuse(Refusal::DoesNotFit, out);
     }
-    buffer::finish(out, 0);
-    let bindings = captures::start().bindings;
-    NodeMatch {
-        case: Case::NoMatch,
+    buffer::finish(out, state.noted);
+    let bindings = state.bindings;
+    Ok(Some(NodeMatch {
+        comments_length: state.noted,
         bindings,
-    }
+    }))
 }

@@ -1,2 +1,2 @@
--- Laws of the definitions of specs/, for the proofs of this crate.
+-- Laws of the definitions of specs/, for the proofs of this crate and of those above.
 pub mod CallLaws

@@ -1,140 +1,121 @@
-// Calls and paths: what matching asks of the pattern's element and the code's at once, by their parts and numbers.
+// Calls and paths: what matching asks of the pattern's element and the code's at once.
 #![tactic(auto)]
 
-ghost use Rattle.std.specs.Prelude.{◌≡◌, List, true, ℕ, ◌+◌, ◌*◌, ◌≤◌, ◌<◌, length, drop};
-ghost use Rattle.syntax.specs.Trees.{Elems, elems};
-ghost use Rattle.syntax.specs.Accessors.{rest, number_of, find_expression};
-ghost use Rattle.facts.specs.Keys.{Indexed};
+ghost use Rattle.std.specs.Prelude.{◌≡◌, List, ℕ, Some, is_some, ◌-◌, ◌≤◌, length};
+ghost use Rattle.syntax.specs.Accessors.{number_of};
+ghost use Rattle.syntax.specs.Views.{elems_of, IsWithin};
 ghost use Rattle.captures.specs.Effects.{Gives};
-ghost use Rattle.matcher.specs.declared.marks.Context.{Context};
-ghost use Rattle.matcher.specs.FileFacts.{takes_self};
-ghost use Rattle.matcher.specs.Matcher.{matcher_of};
-ghost use Rattle.calls.specs.Calls.{receiver_of, derefs_of, first_fits, same_resolution, same_function, takes_receiver, receiver_fits, prefix};
+ghost use Rattle.matcher.specs.Matcher.{matcher_of, qualifier_of};
+ghost use Rattle.calls.specs.Calls.{call_of, arguments_of, argument_of, receiver_of, receiver_derefs, first_fits, same_resolution, same_function, takes_receiver, prefix};
 
 use captures::State;
-use matcher::file_facts::Derefs;
-use matcher::{file_facts, marks};
+use matcher::Matcher;
+use syntax::kinds::ARG_LIST;
+use syntax::parts::Part;
+
+// The number of the first element; 0 where there is none.
+#[tactic(auto, using(crate::proofs::CallLaws::number_there, crate::proofs::CallLaws::number_none))]
+fn number_of(c: Part) -> usize
+    ensures { result ≡ number_of (elems_of c.entry) }
+{
+    if c.is_empty() {
+        return 0;
+    }
+    c.number
+}
+
+// The qualifier type of the pattern's call.
+fn qualifier_of(x: &Matcher, p: Part) -> Option<u32>
+    ensures { result ≡ qualifier_of (call_of (matcher_of x.now) (elems_of p.entry)) }
+{
+    x.call_at(number_of(p))?.qualifier
+}
 
 // Whether the code's path refers to what the pattern's resolves to.
-pub fn same_resolution(marks: &[u32], facts: &[u32], index: &[u64], pe: usize, ce: usize) -> bool
-    requires { Indexed facts.now index.now × (pe < 65536) }
-    ensures { (rule file words : List ℕ) (cx : Context) → (p c : Elems) → number_of p ≡ pe → number_of c ≡ ce → result ≡ same_resolution (matcher_of rule file marks.now words facts.now cx) p c }
+pub fn same_resolution(x: &Matcher, p: Part, c: Part) -> bool
+    ensures { result ≡ same_resolution (matcher_of x.now) (elems_of p.entry) (elems_of c.entry) }
 {
-    file_facts::resolves_to(facts, index, ce, marks::resolution_at(marks, pe))
+    let resolution = x.path_at(number_of(p)).unwrap_or(0);
+    x.resolves_to(number_of(c), resolution)
 }
 
 // Whether the code's method call calls the function of the pattern's call.
-pub fn same_function(marks: &[u32], facts: &[u32], index: &[u64], pe: usize, ce: usize) -> bool
-    requires { Indexed facts.now index.now × (pe < 65536) }
-    ensures { (rule file words : List ℕ) (cx : Context) → (p c : Elems) → number_of p ≡ pe → number_of c ≡ ce → result ≡ same_function (matcher_of rule file marks.now words facts.now cx) p c }
+pub fn same_function(x: &Matcher, p: Part, c: Part) -> bool
+    ensures { result ≡ same_function (matcher_of x.now) (elems_of p.entry) (elems_of c.entry) }
 {
-    file_facts::calls_function(facts, index, ce, marks::function_at(marks, pe))
+    let function = match x.call_at(number_of(p)) {
+        Some(call) => call.function,
+        None => 0,
+    };
+    x.calls_function(number_of(c), function)
 }
 
-// How many elements of a call's arguments are up to the end of the first one.
-pub fn first_argument(part: &[u32]) -> usize
-    ensures result_in_bounds { result * 3 ≤ length part.now }
-    ensures by_index { (i : ℕ) → elems (i + result) (drop (result * 3) part.now) ≡ rest (find_expression (elems i part.now)) }
+// The children of a call's argument list.
+pub fn arguments_of(c: Part) -> Part
+    ensures value { elems_of result ≡ arguments_of (elems_of c.entry) }
+    ensures result_in_bounds { IsWithin result c.entry }
+    ensures shorter { length result.words.now ≤ length c.entry.words.now - 3 }
 {
-    let j = siblings::find(part, 64, 1023);
-    j + siblings::first_width(siblings::behind(part, j))
+    c.first_child(ARG_LIST).children()
+}
+
+// A call's first argument.
+pub fn argument_of(c: Part) -> Part
+    ensures value { elems_of result ≡ argument_of (elems_of c.entry) }
+    ensures result_in_bounds { IsWithin result c.entry }
+{
+    arguments_of(c).find_expression()
+}
+
+// The receiver of a method call.
+pub fn receiver_of(c: Part) -> Part
+    ensures value { elems_of result ≡ receiver_of (elems_of c.entry) }
+    ensures result_in_bounds { IsWithin result c.entry }
+{
+    c.children().find_expression()
 }
 
 // Whether the first argument of the code's call, where it has one, has the qualifier type of the pattern's call, where that has one.
-pub fn first_fits(
-    c: &[u32],
-    marks: &[u32],
-    facts: &[u32],
-    index: &[u64],
-    pe: usize,
-    ce: usize,
-) -> bool
-    requires { Indexed facts.now index.now × (pe < 65536) × (ce * 3 + length c.now ≤ 49152) × (3 ≤ length c.now) }
-    ensures { (rule file words : List ℕ) (cx : Context) → (p : Elems) → number_of p ≡ pe → result ≡ first_fits (matcher_of rule file marks.now words facts.now cx) p (elems ce c.now) }
+#[tactic(auto, using(crate::proofs::CallLaws::number_there))]
+pub fn first_fits(x: &Matcher, p: Part, c: Part) -> bool
+    ensures { result ≡ first_fits (matcher_of x.now) (elems_of p.entry) (elems_of c.entry) }
 {
-    if marks::is_typed(marks, pe) {
-        let cs = siblings::children(c);
-        let i = siblings::find(cs, 7, 7);
-        let y = siblings::behind(cs, i);
-        if y.len() < 3 {
-            return true;
-        }
-        let v = siblings::children(y);
-        let m = siblings::find(v, 64, 1023);
-        if siblings::behind(v, m).len() < 3 {
-            return true;
-        }
-        let d = file_facts::check_expr_type(
-            facts,
-            index,
-            ce + 2 + i + m,
-            marks::type_at(marks, pe),
-        );
-        return d.fits;
-    }
-    true
+    let Some(wanted) = qualifier_of(x, p) else {
+        return true;
+    };
+    let argument = argument_of(c);
+    argument.is_empty() || x.check_expr_type(argument.number, wanted).is_some()
 }
 
 // Whether the receiver of the code's method call is matched with the first argument of the pattern's call.
-pub fn takes_receiver(
-    c: &[u32],
-    marks: &[u32],
-    facts: &[u32],
-    index: &[u64],
-    pe: usize,
-    ce: usize,
-) -> bool
-    requires { Indexed facts.now index.now × (pe < 65536) × (3 ≤ length c.now) }
-    ensures { (rule file words : List ℕ) (cx : Context) → (p : Elems) → number_of p ≡ pe → result ≡ takes_receiver (matcher_of rule file marks.now words facts.now cx) p (elems ce c.now) }
+pub fn takes_receiver(x: &Matcher, p: Part, c: Part) -> bool
+    ensures { result ≡ takes_receiver (matcher_of x.now) (elems_of p.entry) (elems_of c.entry) }
 {
-    if file_facts::takes_self(facts, index, ce) {
-        let cs = siblings::children(c);
-        let x = siblings::behind(cs, siblings::find(cs, 64, 1023));
-        return marks::is_typed(marks, pe) & (3 <= x.len());
+    if x.takes_self(number_of(c)) {
+        return qualifier_of(x, p).is_some() && !receiver_of(c).is_empty();
     }
     true
 }
 
 // How often the receiver is dereferenced until it has the qualifier type, where the function takes self; any receiver fits another function.
-pub fn receiver_derefs(
-    marks: &[u32],
-    facts: &[u32],
-    index: &[u64],
-    pe: usize,
-    ce: usize,
-    receiver: usize,
-) -> Derefs
-    requires { Indexed facts.now index.now × (pe < 65536) }
-    ensures { (rule file words : List ℕ) (cx : Context) → (p c : Elems) → number_of p ≡ pe → number_of c ≡ ce → (takes_self facts.now ce ≡ true → number_of (receiver_of c) ≡ receiver) → (result.fits ≡ receiver_fits (matcher_of rule file marks.now words facts.now cx) p c) × (takes_self facts.now ce ≡ true → result ≡ derefs_of (matcher_of rule file marks.now words facts.now cx) p (receiver_of c)) }
+pub fn receiver_derefs(x: &Matcher, p: Part, c: Part) -> Option<u32>
+    ensures { result ≡ receiver_derefs (matcher_of x.now) (elems_of p.entry) (elems_of c.entry) }
 {
-    if file_facts::takes_self(facts, index, ce) {
-        return file_facts::check_expr_type(facts, index, receiver, marks::type_at(marks, pe));
+    if x.takes_self(number_of(c)) {
+        let wanted = qualifier_of(x, p).unwrap_or(0);
+        return x.check_expr_type(number_of(receiver_of(c)), wanted);
     }
-    Derefs {
-        fits: true,
-        count: 0,
-    }
+    Some(0)
 }
 
-// Gives the placeholder that was bound to the receiver its stars and self kind, where the function takes self.
-pub fn prefixed(
-    s: State,
-    q: &[u32],
-    x: &[u32],
-    marks: &[u32],
-    facts: &[u32],
-    index: &[u64],
-    qe: usize,
-    ce: usize,
-    stars: u32,
-) -> State
-    requires { Indexed facts.now index.now × (qe < 65536) × (takes_self facts.now ce ≡ true → 3 ≤ length x.now) }
-    ensures { (rule file words : List ℕ) (cx : Context) → (out : List ℕ) (re : ℕ) → Gives (prefix (matcher_of rule file marks.now words facts.now cx) stars (elems qe q.now) (elems re x.now) ce) s out (record { ok = true; state = result }) out }
+// Gives the placeholder that was bound to the receiver of the code's method call its stars and self kind, where the function takes self.
+pub fn prefix(x: &Matcher, stars: u32, q: Part, receiver: Part, c: Part, s: State) -> State
+    ensures { (out : List ℕ) → Gives (prefix (matcher_of x.now) stars (elems_of q.entry) (elems_of receiver.entry) (number_of (elems_of c.entry))) s out (Some result) out }
 {
-    if file_facts::takes_self(facts, index, ce) {
-        if marks::is_placeholder(q, marks, qe) {
-            let kind = file_facts::self_kind(facts, index, ce);
-            return captures::bind(s, marks::slot_at(marks, qe), x, x, stars, kind);
+    let call = number_of(c);
+    if x.takes_self(call) {
+        if let Some(slot) = x.placeholder(q) {
+            return s.bind(slot, receiver, receiver, stars, x.self_kind(call));
         }
     }
     s

@@ -6,7 +6,7 @@ use mathlib.Core.List.{List, [], ◌∷◌}
 use Prim.Native.Nat.{ℕ, ◌/◌, ◌%◌, ◌<◌, ◌≤◌}
 use native.Mathlib.Omega.{arith}
 use lib.Dec.{ltb}
-use lib.ListN.{length, drop, get_or}
+use lib.ListN.{length, drop}
 use borrow.Author.Tests.{ltb-true, le-ltb, not-false}
 use Rattle.words.proofs.TestLaws.{low_or, and_both, or_neither}
 use Rattle.syntax.specs.Trees.{Elems, tree}
@@ -27,12 +27,6 @@ unfolding candidates_of
 candidates_none [] h = refl
 candidates_none (a ∷ l) h = absurd (omega arith)
 
--- a rule that is there
-pub rule_there : (l : List ℕ) → 1 < length l → get_or l 1 0 ≡ get_or l 1 missing_rule
-rule_there [] h = absurd (omega arith)
-rule_there (a ∷ []) h = absurd (omega arith)
-rule_there (a ∷ (b ∷ l)) h = refl
-
 -- there are as many candidates as are counted
 pub length_candidates : (l : List ℕ) → length (candidates_of l) ≡ candidate_count l
 unfolding candidates_of
@@ -48,21 +42,6 @@ length_keys (c ∷ l) = rw (length_keys l)
 -- no number past the last element's is that of a node
 pub no_node : (l : List ℕ) (n : ℕ) → WellFormed l → length l / 3 ≤ n → node_in 1 4095 (element_at n (tree l)) ≡ false
 no_node l n w h = rw (tree-none l n w (omega (arith, tree-size l w)))
-
--- ---- 25, one candidate after another
-
-module _ (t : Elems) (rules : ℕ) (l : List ℕ) (h : 0 < length l) where
-  pub bad_more : is_named t rules (candidate_at l) ≡ true → any_bad t rules (candidates_of l) ≡ any_bad t rules (candidates_of (drop 2 l))
-  unfolding any_bad
-  bad_more e = rw (candidates_cons l h, e)
-
-  pub bad_stop : is_named t rules (candidate_at l) ≡ false → any_bad t rules (candidates_of l) ≡ true
-  unfolding any_bad
-  bad_stop e = rw (candidates_cons l h, e)
-
-pub bad_end : (t : Elems) (rules : ℕ) (l : List ℕ) → length l ≤ 0 → any_bad t rules (candidates_of l) ≡ false
-unfolding any_bad
-bad_end t rules l h = rw (candidates_none l h)
 
 -- a lone last word is refused: its rule is missing
 pub lone_bad : (t : Elems) (rules : ℕ) (l : List ℕ) → rules ≤ missing_rule → length l % 2 ≡ 1 → any_bad t rules (candidates_of l) ≡ true

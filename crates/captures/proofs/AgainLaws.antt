@@ -10,10 +10,11 @@ use lib.Dec.{eqb, leb, ltb}
 use lib.ListN.{length, set, get_or, length-set}
 use lib.Seq.{ext_get_or}
 use borrow.Author.Tests.{lt-leb, leb-false, lt-ltb, ltb-true}
+use Rattle.std.proofs.Common.{Option, Some, None}
 use Rattle.captures.specs.declared.Binding.{Binding}
 use Rattle.captures.specs.declared.State.{State}
 use Rattle.captures.specs.Attempts.{Event, Bound, Noted, notes}
-use Rattle.captures.specs.Effects.{unbound, moved_to, place_behind, recorded_one, recorded, laid_one, laid_by}
+use Rattle.captures.specs.Effects.{moved_to, place_behind, recorded_one, recorded, laid_one, laid_by}
 use Rattle.captures.proofs.AttemptLaws.{recorded-append, noted_after, recorded_moved, recorded-noted, recorded-notes, pass_one}
 use Rattle.captures.proofs.MergeLaws.{last_bound, last-append, bindings_merge}
 
@@ -76,28 +77,28 @@ binds-append slot (Bound k v ∷ es) fs = ap (λ (b : Bool). eqb k slot || b) (b
 binds-append slot (Noted t ∷ es) fs = binds-append slot es fs
 
 -- one that is not bound stays, and of one that is it does not matter what it was
-last_stays : (slot : ℕ) (es : List Event) (b : Binding) → binds slot es ≡ false → last_bound slot es b ≡ b
+last_stays : (slot : ℕ) (es : List Event) (b : Option Binding) → binds slot es ≡ false → last_bound slot es b ≡ b
 unfolding last_bound binds
 last_stays slot [] b h = refl
 last_stays slot (Bound k v ∷ es) b h = by (last_stays slot es b) (eqb k slot) h
   where
-    by : (binds slot es ≡ false → last_bound slot es b ≡ b) → (d : Bool) → (d || binds slot es) ≡ false → last_bound slot es (cond d v b) ≡ b
+    by : (binds slot es ≡ false → last_bound slot es b ≡ b) → (d : Bool) → (d || binds slot es) ≡ false → last_bound slot es (cond d (Some v) b) ≡ b
     by left true e = absurd (false≢true (sym e))
     by left false e = left e
 last_stays slot (Noted t ∷ es) b h = last_stays slot es b h
 
-last-same : (slot : ℕ) (es : List Event) (b d : Binding) → binds slot es ≡ true → last_bound slot es b ≡ last_bound slot es d
+last-same : (slot : ℕ) (es : List Event) (b d : Option Binding) → binds slot es ≡ true → last_bound slot es b ≡ last_bound slot es d
 unfolding last_bound binds
 last-same slot [] b d h = absurd (false≢true h)
 last-same slot (Bound k v ∷ es) b d h = by (last-same slot es b d) (eqb k slot) h
   where
     by : (binds slot es ≡ true → last_bound slot es b ≡ last_bound slot es d) → (x : Bool) → (x || binds slot es) ≡ true
-        → last_bound slot es (cond x v b) ≡ last_bound slot es (cond x v d)
+        → last_bound slot es (cond x (Some v) b) ≡ last_bound slot es (cond x (Some v) d)
     by left true e = refl
     by left false e = left e
 last-same slot (Noted t ∷ es) b d h = last-same slot es b d h
 
-last-notes : (slot : ℕ) (es : List Event) (b : Binding) → last_bound slot (notes es) b ≡ b
+last-notes : (slot : ℕ) (es : List Event) (b : Option Binding) → last_bound slot (notes es) b ≡ b
 unfolding last_bound notes
 last-notes slot [] b = refl
 last-notes slot (Bound k v ∷ es) b = last-notes slot es b
@@ -121,21 +122,21 @@ bindings_length : (room : ℕ) (es : List Event) (s : State) → length (recorde
 unfolding recorded
 bindings_length room [] s = refl
 bindings_length room (Bound k v ∷ es) s =
-    let n : length (set s.bindings k v) ≡ length s.bindings = simp length-set in
+    let n : length (set s.bindings k (Some v)) ≡ length s.bindings = simp length-set in
     bindings_length room es (recorded_one room (Bound k v) s) ∙ n
 bindings_length room (Noted t ∷ es) s = bindings_length room es (recorded_one room (Noted t) s)
 
 -- events that bind the same and count the same leave the same
-same-recorded : (room : ℕ) (es fs : List Event) (s : State) → ((slot : ℕ) (b : Binding) → last_bound slot es b ≡ last_bound slot fs b)
+same-recorded : (room : ℕ) (es fs : List Event) (s : State) → ((slot : ℕ) (b : Option Binding) → last_bound slot es b ≡ last_bound slot fs b)
     → noted_after room es s.noted ≡ noted_after room fs s.noted → recorded room es s ≡ recorded room fs s
 same-recorded room es fs s same at =
     let a = recorded room es s in let b = recorded room fs s in
     let n = bindings_length room es s in
-    let e : a.bindings ≡ b.bindings = ext_get_or unbound a.bindings b.bindings (n ∙ sym (bindings_length room fs s))
+    let e : a.bindings ≡ b.bindings = ext_get_or None a.bindings b.bindings (n ∙ sym (bindings_length room fs s))
     (λ slot h. let l : slot < length s.bindings = omega (arith, h, n) in
-    bindings_merge room es s slot unbound l ∙ same slot (get_or s.bindings slot unbound) ∙ sym (bindings_merge room fs s slot unbound l)) in
+    bindings_merge room es s slot None l ∙ same slot (get_or s.bindings slot None) ∙ sym (bindings_merge room fs s slot None l)) in
     recorded-noted room es s ∙ ap (λ (k : ℕ). moved_to k s.lays a) at
-    ∙ ap (λ (l : List Binding). let t : State = record { bindings = l; noted = noted_after room fs s.noted; lays = s.lays } in t) e ∙ sym (recorded-noted room fs s)
+    ∙ ap (λ (l : List (Option Binding)). let t : State = record { bindings = l; noted = noted_after room fs s.noted; lays = s.lays } in t) e ∙ sym (recorded-noted room fs s)
 
 pub left_out : (room : ℕ) (es fs os : List Event) (s : State) → Covers os es → recorded room (es ++ (fs ++ os)) s ≡ recorded room ((fs ++ os) ++ notes es) s
 left_out room es fs os s covers = same-recorded room (es ++ (fs ++ os)) ((fs ++ os) ++ notes es) s
@@ -144,9 +145,9 @@ left_out room es fs os s covers = same-recorded room (es ++ (fs ++ os)) ((fs ++ 
     (noted-append room es (fs ++ os) s.noted ∙ noted-swap room es (fs ++ os) s.noted
     ∙ sym (noted-append room (fs ++ os) (notes es) s.noted ∙ noted-notes room es (noted_after room (fs ++ os) s.noted)))
   where
-    by : (slot : ℕ) (b : Binding) (d : Bool) → binds slot es ≡ d → last_bound slot os (last_bound slot fs (last_bound slot es b)) ≡ last_bound slot os (last_bound slot fs b)
+    by : (slot : ℕ) (b : Option Binding) (d : Bool) → binds slot es ≡ d → last_bound slot os (last_bound slot fs (last_bound slot es b)) ≡ last_bound slot os (last_bound slot fs b)
     by slot b true e = last-same slot os (last_bound slot fs (last_bound slot es b)) (last_bound slot fs b) (covers slot e)
-    by slot b false e = ap (λ (d : Binding). last_bound slot os (last_bound slot fs d)) (last_stays slot es b e)
+    by slot b false e = ap (λ (d : Option Binding). last_bound slot os (last_bound slot fs d)) (last_stays slot es b e)
 
 -- ---- where no comment is laid
 

@@ -6,16 +6,16 @@ use mathlib.Core.List.{List, [], ◌∷◌, ◌++◌, append_assoc, append-nil}
 use Prim.Native.Nat.{ℕ, ◌+◌, ◌-◌, ◌≤◌, ◌<◌}
 use native.Mathlib.Nat.{add-zero, zero-add}
 use native.Mathlib.Omega.{arith}
-use lib.Dec.{leb, ltb}
+use lib.Dec.{leb}
 use lib.ListN.{length, take, drop, length-append, take-append-drop}
-use borrow.Author.Tests.{le-leb, lt-leb, leb-true, leb-false, lt-ltb, ltb-true}
+use borrow.Author.Tests.{le-leb, lt-leb, leb-true, leb-false}
+use Rattle.std.proofs.Common.{Option, Some, None}
 use Rattle.words.specs.Buffer.{laid, laid_if_room}
 use Rattle.words.proofs.BufferLaws.{length-laid, laid-laid}
 use Rattle.words.proofs.TestLaws.{and_both, and_of}
 use Rattle.captures.specs.declared.State.{State}
-use Rattle.captures.specs.declared.Answer.{Answer}
 use Rattle.captures.specs.Attempts.{Event, Bound, Noted, Attempt, failed, matched, and_then, given, comments, notes}
-use Rattle.captures.specs.Effects.{nothing, moved_to, place_behind, recorded_one, recorded, laid_one, laid_by, no_match, BufferOf, Gives, Leads}
+use Rattle.captures.specs.Effects.{nothing, moved_to, place_behind, recorded_one, recorded, laid_one, laid_by, BufferOf, Gives, Leads}
 
 -- ---- one attempt and then another
 
@@ -83,14 +83,14 @@ laid-append (e ∷ es) fs s out =
 
 -- ---- what an attempt gives
 
-pub gives_done : (s : State) (out : List ℕ) → Gives (matched []) s out (record { ok = true; state = s }) out
+pub gives_done : (s : State) (out : List ℕ) → Gives (matched []) s out (Some s) out
 unfolding recorded laid_by
 gives_done s out = record { answer = refl; buffer = refl }
 
-pub gives_failed : (s : State) (out out' : List ℕ) → length out' ≡ length out → Gives failed s out no_match out'
+pub gives_failed : (s : State) (out out' : List ℕ) → length out' ≡ length out → Gives failed s out None out'
 gives_failed s out out' h = record { answer = refl; buffer = h }
 
-pub gives_event : (e : Event) (s : State) (out : List ℕ) → Gives (matched (e ∷ [])) s out (record { ok = true; state = recorded_one (length out) e s }) (laid_one e s out)
+pub gives_event : (e : Event) (s : State) (out : List ℕ) → Gives (matched (e ∷ [])) s out (Some (recorded_one (length out) e s)) (laid_one e s out)
 unfolding recorded laid_by
 gives_event e s out = record { answer = refl; buffer = refl }
 
@@ -98,36 +98,47 @@ length_of : (a : Attempt) (s : State) (out out' : List ℕ) → BufferOf a s out
 length_of failed s out out' h = h
 length_of (matched es) s out out' h = ap length h ∙ laid-length es s out
 
-pub gives_length : {a : Attempt} {s : State} {out : List ℕ} {r : Answer} {out' : List ℕ} → Gives a s out r out' → length out' ≡ length out
+pub gives_length : {a : Attempt} {s : State} {out : List ℕ} {r : Option State} {out' : List ℕ} → Gives a s out r out' → length out' ≡ length out
 gives_length {a} {s} {out} {r} {out'} g = length_of a s out out' g.buffer
 
-pub gives_end : {a : Attempt} {s : State} {out : List ℕ} {r : Answer} {out' : List ℕ} → Gives a s out r out' → r.ok ≡ true → Gives (and_then a (matched [])) s out r out'
-gives_end {a} g h = rw (then_right a) g
-
 -- after events comes what is right after what they leave
-leads_matched : (es : List Event) (b : Attempt) (s : State) (out : List ℕ) → Leads b (and_then (matched es) b) s out (recorded (length out) es s) (laid_by es s out)
+matched_then : (es : List Event) (b : Attempt) (s : State) (out : List ℕ) (r : Option State) (end : List ℕ)
+    → Gives b (recorded (length out) es s) (laid_by es s out) r end → Gives (and_then (matched es) b) s out r end
 unfolding and_then
-leads_matched es failed s out r end g = record { answer = g.answer; buffer = g.buffer ∙ laid-length es s out }
-leads_matched es (matched fs) s out r end g = record {
+matched_then es failed s out r end g = record { answer = g.answer; buffer = g.buffer ∙ laid-length es s out }
+matched_then es (matched fs) s out r end g = record {
   answer = g.answer ∙ rw (laid-length es s out, recorded-append (length out) es fs s);
   buffer = g.buffer ∙ sym (laid-append es fs s out);
 }
 
-pub leads_then : (a b : Attempt) (s : State) (out : List ℕ) (r : Answer) (out' : List ℕ) → Gives a s out r out' → r.ok ≡ true → Leads b (and_then a b) s out r.state out'
-leads_then failed b s out r out' g h = absurd (false≢true (sym (ap (λ (q : Answer). q.ok) g.answer) ∙ h))
-leads_then (matched es) b s out r out' g h = rw (g.answer, g.buffer) (leads_matched es b s out)
+leads_matched : (es : List Event) (b : Attempt) (s : State) (out : List ℕ) → Leads b (and_then (matched es) b) s out (recorded (length out) es s) (laid_by es s out)
+leads_matched es b s out = record { gives = matched_then es b s out }
 
-pub fails_then : (a b : Attempt) (s : State) (out : List ℕ) (r : Answer) (out' : List ℕ) → Gives a s out r out' → r.ok ≡ false → Gives (and_then a b) s out no_match out'
+-- where the first matched, what is right for the second, made with what the first left, is right for both
+pub leads_then : (a b : Attempt) (s : State) (out : List ℕ) (t : State) (out' : List ℕ) → Gives a s out (Some t) out' → Leads b (and_then a b) s out t out'
+leads_then failed b s out t out' g = absurd (let h = g.answer in let z : ◌≡◌ {A = ℕ} 0 1 = cc in omega arith)
+leads_then (matched es) b s out t out' g =
+    let h = g.answer in let e : t ≡ recorded (length out) es s = cc in rw (e, g.buffer) (leads_matched es b s out)
+
+pub gives_then : (a b : Attempt) (s : State) (out : List ℕ) (t : State) (out' : List ℕ) (r : Option State) (end : List ℕ)
+    → Gives a s out (Some t) out' → Gives b t out' r end → Gives (and_then a b) s out r end
+gives_then a b s out t out' r end g h = (leads_then a b s out t out' g).gives r end h
+
+-- where it did not, neither do both
+pub fails_then : (a b : Attempt) (s : State) (out out' : List ℕ) → Gives a s out None out' → Gives (and_then a b) s out None out'
 unfolding and_then
-fails_then failed b s out r out' g h = gives_failed s out out' g.buffer
-fails_then (matched es) b s out r out' g h = absurd (false≢true (sym h ∙ ap (λ (q : Answer). q.ok) g.answer))
+fails_then failed b s out out' g = gives_failed s out out' g.buffer
+fails_then (matched es) b s out out' g = absurd (let h = g.answer in let z : ◌≡◌ {A = ℕ} 0 1 = cc in omega arith)
 
 pub leads_event : (e : Event) (b : Attempt) (s : State) (out : List ℕ) → Leads b (and_then (matched (e ∷ [])) b) s out (recorded_one (length out) e s) (laid_one e s out)
 unfolding recorded laid_by
 leads_event e b s out = leads_matched (e ∷ []) b s out
 
+pub leads_none : (b : Attempt) (s : State) (out : List ℕ) → Leads b (and_then (matched []) b) s out s out
+leads_none b s out = rw (then_nothing b) (record { gives = λ r end g. g })
+
 pub leads_trans : {a b d : Attempt} {s s₁ s₂ : State} {out out₁ out₂ : List ℕ} → Leads b d s out s₁ out₁ → Leads a b s₁ out₁ s₂ out₂ → Leads a d s out s₂ out₂
-leads_trans f g r end h = f r end (g r end h)
+leads_trans f g = record { gives = λ r end h. f.gives r end (g.gives r end h) }
 
 -- ---- the place behind comments
 
@@ -244,27 +255,27 @@ noted_full room (Noted t ∷ es) at h =
 
 -- ---- counted once more
 
-module _ (room : ℕ) (es : List Event) (s t : State) (past : ℕ) (e : past ≡ room + 1) (f : t ≡ recorded room es s) where
+module _ (room : ℕ) (es : List Event) (s t : State) (f : t ≡ recorded room es s) where
   place : t.noted ≡ noted_after room es s.noted
   place = ap (λ (u : State). u.noted) (f ∙ recorded-noted room es s)
 
   -- by their length where the room was enough
-  pub counted_once_more : (ltb t.noted past && leb s.noted t.noted) ≡ true
+  pub counted_once_more : (leb t.noted room && leb s.noted t.noted) ≡ true
       → moved_to (place_behind room t.noted (t.noted - s.noted)) t.lays t ≡ recorded room (notes es) t
   counted_once_more h =
-      let l : t.noted ≤ room = omega (arith, e, ltb-true t.noted past (and_both (ltb t.noted past) (leb s.noted t.noted) h).0) in
+      let l : t.noted ≤ room = leb-true t.noted room (and_both (leb t.noted room) (leb s.noted t.noted) h).0 in
       let m = noted_exact room es s.noted (omega (arith, place)) in
       let n : t.noted - s.noted ≡ length (comments es) = omega (arith, place, m.0) in
       sym (recorded-notes room es t ∙ ap (λ (k : ℕ). moved_to k t.lays t) (noted-again room es t.noted l ∙ sym (ap (place_behind room t.noted) n)))
 
   -- else they change nothing
-  pub counted_full : (ltb t.noted past && leb s.noted t.noted) ≡ false → t ≡ recorded room (notes es) t
+  pub counted_full : (leb t.noted room && leb s.noted t.noted) ≡ false → t ≡ recorded room (notes es) t
   counted_full h = sym (recorded-notes room es t ∙ ap (λ (k : ℕ). moved_to k t.lays t) (ap (noted_after room es) place ∙ noted_full room es s.noted (by (leb t.noted room) refl) ∙ sym place))
     where
       by : (b : Bool) → leb t.noted room ≡ b → room < noted_after room es s.noted
       by true l =
           let k = leb-true t.noted room l in let m = noted_exact room es s.noted (omega (arith, place, k)) in
-          absurd (false≢true (sym h ∙ and_of (lt-ltb t.noted past (omega (arith, e, k))) (le-leb s.noted t.noted (omega (arith, place, m.0)))))
+          absurd (false≢true (sym h ∙ and_of l (le-leb s.noted t.noted (omega (arith, place, m.0)))))
       by false l = omega (arith, place, leb-false t.noted room l)
 
 -- ---- all comments

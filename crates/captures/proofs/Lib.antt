@@ -3,3 +3,5 @@ pub mod AttemptLaws
 pub mod MergeLaws
 pub mod AgainLaws
 pub mod PartLaws
+pub mod BindingLaws
+pub mod TurnLaws

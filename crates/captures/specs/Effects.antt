@@ -1,26 +1,32 @@
 -- What the code keeps while it matches: eight bindings, the place behind the comments noted so far, and the buffer they are laid in, unless
 -- they are only measured. Every attempt acts on these as its events say, one after the other.
 -- Assumes nothing.
-use Rattle.std.specs.Prelude.{ℕ, ◌+◌, ◌≡◌, Bool, true, false, cond, List, [], ◌∷◌, leb, length, set, replicate}
+use Rattle.std.specs.Prelude.{ℕ, ◌+◌, ◌≡◌, Bool, true, cond, List, [], ◌∷◌, Option, Some, None, eqb, leb, length, slice_set, replicate}
 use Rattle.words.specs.Buffer.{laid_if_room}
 use Rattle.syntax.specs.Trees.{Elems}
 use Rattle.syntax.specs.Accessors.{range_of}
+use Rattle.captures.specs.declared.SelfKind.{SelfKind}
+use Rattle.captures.specs.declared.SelfKind.TheVariants.{Owned, Ref, RefMut}
 use Rattle.captures.specs.declared.Binding.{Binding}
 use Rattle.captures.specs.declared.State.{State}
-use Rattle.captures.specs.declared.Answer.{Answer}
-use Rattle.captures.specs.declared.Turn.{Turn}
 use Rattle.captures.specs.Attempts.{Event, Bound, Noted, Attempt, failed, matched}
 
--- a binding from the start of one element to the end of another, with its stars and its self kind
-abbrev pub binding : Elems → Elems → ℕ → ℕ → Binding
-binding first last stars kind = record { bound = true; start = (range_of first).start; end = (range_of last).end; stars = stars; self_kind = kind }
+-- "self kind (0 owned, 1 `&`, 2 `&mut`)"
+abbrev pub self_kind : ℕ → SelfKind
+self_kind n = cond (eqb n 0) Owned (cond (eqb n 1) Ref RefMut)
 
-abbrev pub unbound : Binding
-unbound = record { bound = false; start = 0; end = 0; stars = 0; self_kind = 0 }
+abbrev pub kind_number : SelfKind → ℕ
+kind_number Owned = 0
+kind_number Ref = 1
+kind_number RefMut = 2
+
+-- a binding from the start of one element to the end of another, with its stars and its self kind
+abbrev pub binding : Elems → Elems → ℕ → SelfKind → Binding
+binding first last stars kind = record { start = (range_of first).start; end = (range_of last).end; stars = stars; self_kind = kind }
 
 -- no binding and no comment
 abbrev pub nothing : State
-nothing = record { bindings = replicate 8 unbound; noted = 0; lays = true }
+nothing = record { bindings = replicate 8 None; noted = 0; lays = true }
 
 -- the same bindings, with comments laid, or only measured, from a place on
 abbrev pub moved_to : ℕ → Bool → State → State
@@ -32,7 +38,7 @@ place_behind room at n = cond (leb (at + n) room) (at + n) (room + 1)
 
 -- one event, and events in turn, with room for so many bytes of comments
 abbrev pub recorded_one : ℕ → Event → State → State
-recorded_one room (Bound slot b) s = record { bindings = set s.bindings slot b; noted = s.noted; lays = s.lays }
+recorded_one room (Bound slot b) s = record { bindings = slice_set s.bindings slot (Some b); noted = s.noted; lays = s.lays }
 recorded_one room (Noted t) s = moved_to (place_behind room s.noted (length t)) s.lays s
 
 unfoldable pub recorded : ℕ → List Event → State → State
@@ -48,26 +54,19 @@ unfoldable pub laid_by : List Event → State → List ℕ → List ℕ
 laid_by [] s out = out
 laid_by (e ∷ es) s out = laid_by es (recorded_one (length out) e s) (laid_one e s out)
 
--- no match is answered without a state
-abbrev pub no_match : Answer
-no_match = record { ok = false; state = nothing }
-
-abbrev pub stopped : Turn
-stopped = record { go = false; p = 0; c = 0; state = nothing }
-
--- An answer and a buffer are those of an attempt, made with a state and a buffer; after one that failed the buffer is of no use.
-abbrev pub AnswerOf : Attempt → State → List ℕ → Answer → Type 0
-AnswerOf failed s out r = r ≡ no_match
-AnswerOf (matched es) s out r = r ≡ record { ok = true; state = recorded (length out) es s }
+-- The state, or none, that an attempt answers, and the buffer then; after one that failed the buffer is of no use.
+abbrev pub AnswerOf : Attempt → State → List ℕ → Option State → Type 0
+AnswerOf failed s out r = r ≡ None
+AnswerOf (matched es) s out r = r ≡ Some (recorded (length out) es s)
 
 abbrev pub BufferOf : Attempt → State → List ℕ → List ℕ → Type 0
 BufferOf failed s out out' = length out' ≡ length out
 BufferOf (matched es) s out out' = out' ≡ laid_by es s out
 
-pub record Gives (a : Attempt) (s : State) (out : List ℕ) (r : Answer) (out' : List ℕ) : Type 0 where
+pub record Gives (a : Attempt) (s : State) (out : List ℕ) (r : Option State) (out' : List ℕ) : Type 0 where
   pub answer : AnswerOf a s out r
   pub buffer : BufferOf a s out out'
 
 -- What is right for the attempt that is left, made with what was kept, is right for the whole attempt.
-abbrev pub Leads : Attempt → Attempt → State → List ℕ → State → List ℕ → Type 0
-Leads left whole s out s' out' = (r : Answer) (end : List ℕ) → Gives left s' out' r end → Gives whole s out r end
+pub record Leads (left whole : Attempt) (s : State) (out : List ℕ) (s' : State) (out' : List ℕ) : Type 0 where
+  pub gives : (r : Option State) (end : List ℕ) → Gives left s' out' r end → Gives whole s out r end

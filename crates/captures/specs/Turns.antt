@@ -2,23 +2,25 @@
 -- for what is left and for the whole: where the turn goes on, what is right for what is left is right for the whole; where it stops, no
 -- match is.
 -- Assumes nothing.
-use Rattle.std.specs.Prelude.{ℕ, ◌+◌, ◌*◌, ◌≤◌, ◌≡◌, true, false, List, length, drop}
+use Rattle.std.specs.Prelude.{ℕ, ◌<◌, List, Option, Some, None, length}
+use Rattle.syntax.specs.Views.{IsWithin}
+use Rattle.syntax.specs.declared.parts.Part.{Part}
 use Rattle.captures.specs.declared.State.{State}
-use Rattle.captures.specs.declared.Answer.{Answer}
 use Rattle.captures.specs.declared.Turn.{Turn}
-use Rattle.captures.specs.Effects.{no_match}
 
--- the numbers and the words of what is left of pattern and code, a state, a buffer, and an answer with the buffer then
+-- what is left of pattern and code, a state, a buffer, and an answer with the buffer then
 abbrev pub Giving : Type 1
-Giving = ℕ → List ℕ → ℕ → List ℕ → State → List ℕ → Answer → List ℕ → Type 0
+Giving = Part → Part → State → List ℕ → Option State → List ℕ → Type 0
 
-pub record TurnOf (left whole : Giving) (pe : ℕ) (p : List ℕ) (ce : ℕ) (c : List ℕ) (s : State) (out : List ℕ) (r : Turn) (out' : List ℕ) : Type 0 where
-  pub goes : r.go ≡ true → (a : Answer) (end : List ℕ)
-      → left (pe + r.p) (drop (r.p * 3) p) (ce + r.c) (drop (r.c * 3) c) r.state out' a end → whole pe p ce c s out a end
-  pub stops : r.go ≡ false → whole pe p ce c s out no_match out'
+-- what is right for what a turn leaves, with the buffer then, is right for the whole
+pub record GoesOn (left whole : Giving) (p c : Part) (s : State) (out : List ℕ) (t : Turn) (out' : List ℕ) : Type 0 where
+  pub right : (r : Option State) (end : List ℕ) → left t.p t.c t.state out' r end → whole p c s out r end
+
+abbrev pub TurnOf : Giving → Giving → Part → Part → State → List ℕ → Option Turn → List ℕ → Type 0
+TurnOf left whole p c s out None out' = whole p c s out None out'
+TurnOf left whole p c s out (Some t) out' = GoesOn left whole p c s out t out'
 
 -- it uses up no more than there is, and some of the code where it goes on
-pub record Steps (p c : List ℕ) (r : Turn) : Type 0 where
-  pub pattern : r.p * 3 ≤ length p
-  pub code : r.c * 3 ≤ length c
-  pub falls : r.go ≡ true → 1 ≤ r.c
+abbrev pub Steps : Part → Part → Option Turn → Type 0
+Steps p c None = Unit {0}
+Steps p c (Some t) = IsWithin t.p p × IsWithin t.c c × (length t.c.words.now < length c.words.now)

@@ -1,12 +1,12 @@
 // Example I: `f($p, $q) ==>> g($q, $p)` on `f(a, b)`.
-use checks::Restriction;
-use edits::Edited;
+use job_checks::{GivenJob, Inputs};
+use trees::GivenFile;
 
-const DIRECTORY: [u32; 27] = [
+static DIRECTORY: [u32; 27] = [
     9, 9, 35, 1, 9, 9, 35, 63, 4, 63, 8, 0, 0, 0, 0, 0, 0, 0, 0, 0, 0, 0, 0, 0, 0, 0, 0,
 ];
 
-const WORDS: [u32; 156] = [
+static WORDS: [u32; 156] = [
     // pattern tokens
     0x2001_0001,
     0x20a8_0001,
@@ -171,7 +171,7 @@ const WORDS: [u32; 156] = [
     0xa000_0001,
 ];
 
-const TREE: [u32; 66] = [
+static TREE: [u32; 66] = [
     0x1800_0016,
     0x3000_0000,
     0x4000_0007,
@@ -240,7 +240,7 @@ const TREE: [u32; 66] = [
     0x4000_0007,
 ];
 
-const FACTS: [u32; 8] = [
+static FACTS: [u32; 8] = [
     0x9000_0003,
     0xa000_0001,
     0xa000_0000,
@@ -251,7 +251,7 @@ const FACTS: [u32; 8] = [
     0xa000_0000,
 ];
 
-const PARSES: [u32; 31] = [
+static PARSES: [u32; 31] = [
     0x8040_000e,
     0x3000_0000,
     0x4000_0007,
@@ -285,26 +285,25 @@ const PARSES: [u32; 31] = [
     0x4000_0006,
 ];
 
+static CANDIDATES: [u32; 2] = [1, 0];
+
 // The job with its parses, so that nothing is asked for.
-pub fn run(range: Restriction, out: &mut [u8]) -> Edited {
-    let directory = DIRECTORY;
-    let words = WORDS;
-    let tree = TREE;
-    let facts = FACTS;
-    let parses = PARSES;
-    let candidates: [u32; 2] = [1, 0];
-    job::job(
-        &directory,
-        &words,
-        b"f($p, $q)f(__placeholder_p, __placeholder_q)g($q, $p)g(__placeholder_q, __placeholder_p)",
-        b"g",
-        &tree,
-        b"f(a, b)",
-        &facts,
-        &parses,
-        b"g(b, a)",
-        &candidates,
-        range,
-        out,
-    )
+pub fn job() -> GivenJob<'static> {
+    GivenJob {
+        inputs: Inputs {
+            directory: &DIRECTORY,
+            words: &WORDS,
+            bytes: b"f($p, $q)f(__placeholder_p, __placeholder_q)g($q, $p)g(__placeholder_q, __placeholder_p)",
+            fact_text: b"g",
+            file: GivenFile {
+                words: &TREE,
+                text: b"f(a, b)",
+                facts: &FACTS,
+            },
+            parses: &PARSES,
+            parse_text: b"g(b, a)",
+            range: None,
+        },
+        candidates: &CANDIDATES,
+    }
 }

@@ -1,12 +1,12 @@
 // Example K: `foo($a) ==>> $a.bar()` on `foo(x + y)`.
-use checks::Restriction;
-use edits::Edited;
+use job_checks::{GivenJob, Inputs};
+use trees::GivenFile;
 
-const DIRECTORY: [u32; 27] = [
+static DIRECTORY: [u32; 27] = [
     5, 7, 20, 1, 6, 8, 21, 42, 4, 36, 0, 0, 0, 0, 0, 0, 0, 0, 0, 0, 0, 0, 0, 0, 0, 0, 0,
 ];
 
-const WORDS: [u32; 93] = [
+static WORDS: [u32; 93] = [
     // pattern tokens
     0x2001_0003,
     0x20a8_0001,
@@ -107,7 +107,7 @@ const WORDS: [u32; 93] = [
     0x4000_0015,
 ];
 
-const TREE: [u32; 72] = [
+static TREE: [u32; 72] = [
     0x1800_0018,
     0x3000_0000,
     0x4000_000a,
@@ -182,7 +182,7 @@ const TREE: [u32; 72] = [
     0x4000_000a,
 ];
 
-const FACTS: [u32; 8] = [
+static FACTS: [u32; 8] = [
     0x9000_0003,
     0xa000_0001,
     0xa000_0000,
@@ -193,7 +193,7 @@ const FACTS: [u32; 8] = [
     0xa000_0000,
 ];
 
-const PARSES: [u32; 27] = [
+static PARSES: [u32; 27] = [
     0x8041_000c,
     0x3000_0000,
     0x4000_000b,
@@ -223,26 +223,25 @@ const PARSES: [u32; 27] = [
     0x4000_000b,
 ];
 
+static CANDIDATES: [u32; 2] = [1, 0];
+
 // The job with its parses, so that nothing is asked for.
-pub fn run(range: Restriction, out: &mut [u8]) -> Edited {
-    let directory = DIRECTORY;
-    let words = WORDS;
-    let tree = TREE;
-    let facts = FACTS;
-    let parses = PARSES;
-    let candidates: [u32; 2] = [1, 0];
-    job::job(
-        &directory,
-        &words,
-        b"foo($a)foo(__placeholder_a)$a.bar()__placeholder_a.bar()",
-        b"",
-        &tree,
-        b"foo(x + y)",
-        &facts,
-        &parses,
-        b"x + y.bar()",
-        &candidates,
-        range,
-        out,
-    )
+pub fn job() -> GivenJob<'static> {
+    GivenJob {
+        inputs: Inputs {
+            directory: &DIRECTORY,
+            words: &WORDS,
+            bytes: b"foo($a)foo(__placeholder_a)$a.bar()__placeholder_a.bar()",
+            fact_text: b"",
+            file: GivenFile {
+                words: &TREE,
+                text: b"foo(x + y)",
+                facts: &FACTS,
+            },
+            parses: &PARSES,
+            parse_text: b"x + y.bar()",
+            range: None,
+        },
+        candidates: &CANDIDATES,
+    }
 }

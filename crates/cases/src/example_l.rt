@@ -1,12 +1,12 @@
 // Example L: `f($a) ==>> g($a)` on `f(1 /*c*/)`.
-use checks::Restriction;
-use edits::Edited;
+use job_checks::{GivenJob, Inputs};
+use trees::GivenFile;
 
-const DIRECTORY: [u32; 27] = [
+static DIRECTORY: [u32; 27] = [
     5, 5, 18, 1, 5, 5, 18, 42, 4, 42, 8, 0, 0, 0, 0, 0, 0, 0, 0, 0, 0, 0, 0, 0, 0, 0, 0,
 ];
 
-const WORDS: [u32; 106] = [
+static WORDS: [u32; 106] = [
     // pattern tokens
     0x2001_0001,
     0x20a8_0001,
@@ -121,7 +121,7 @@ const WORDS: [u32; 106] = [
     0xa000_0001,
 ];
 
-const TREE: [u32; 42] = [
+static TREE: [u32; 42] = [
     0x1800_000e,
     0x3000_0000,
     0x4000_000a,
@@ -166,7 +166,7 @@ const TREE: [u32; 42] = [
     0x4000_000a,
 ];
 
-const FACTS: [u32; 8] = [
+static FACTS: [u32; 8] = [
     0x9000_0003,
     0xa000_0001,
     0xa000_0000,
@@ -177,7 +177,7 @@ const FACTS: [u32; 8] = [
     0xa000_0000,
 ];
 
-const PARSES: [u32; 17] = [
+static PARSES: [u32; 17] = [
     0x8040_0007,
     0x3000_0000,
     0x4000_0004,
@@ -197,26 +197,25 @@ const PARSES: [u32; 17] = [
     0x4000_0003,
 ];
 
+static CANDIDATES: [u32; 2] = [1, 0];
+
 // The job with its parses, so that nothing is asked for.
-pub fn run(range: Restriction, out: &mut [u8]) -> Edited {
-    let directory = DIRECTORY;
-    let words = WORDS;
-    let tree = TREE;
-    let facts = FACTS;
-    let parses = PARSES;
-    let candidates: [u32; 2] = [1, 0];
-    job::job(
-        &directory,
-        &words,
-        b"f($a)f(__placeholder_a)g($a)g(__placeholder_a)",
-        b"g",
-        &tree,
-        b"f(1 /*c*/)",
-        &facts,
-        &parses,
-        b"g(1)",
-        &candidates,
-        range,
-        out,
-    )
+pub fn job() -> GivenJob<'static> {
+    GivenJob {
+        inputs: Inputs {
+            directory: &DIRECTORY,
+            words: &WORDS,
+            bytes: b"f($a)f(__placeholder_a)g($a)g(__placeholder_a)",
+            fact_text: b"g",
+            file: GivenFile {
+                words: &TREE,
+                text: b"f(1 /*c*/)",
+                facts: &FACTS,
+            },
+            parses: &PARSES,
+            parse_text: b"g(1)",
+            range: None,
+        },
+        candidates: &CANDIDATES,
+    }
 }

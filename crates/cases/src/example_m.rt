@@ -1,13 +1,13 @@
 // Example M: `S::f($s) ==>> h($s)` and `old() ==>> new2()` on `old().f()`, self by `&`.
-use checks::Restriction;
-use edits::Edited;
+use job_checks::{GivenJob, Inputs};
+use trees::GivenFile;
 
-const DIRECTORY: [u32; 54] = [
+static DIRECTORY: [u32; 54] = [
     8, 8, 21, 1, 5, 5, 18, 57, 8, 42, 8, 0, 0, 0, 0, 0, 0, 0, 0, 0, 0, 0, 0, 0, 0, 0, 0, 3, 5, 5,
     1, 3, 6, 6, 27, 4, 27, 8, 0, 0, 0, 0, 0, 0, 0, 0, 0, 0, 0, 0, 0, 0, 0, 0,
 ];
 
-const WORDS: [u32; 200] = [
+static WORDS: [u32; 200] = [
     // pattern tokens
     0x2001_0001,
     0x200a_0001,
@@ -222,7 +222,7 @@ const WORDS: [u32; 200] = [
     0xa000_0004,
 ];
 
-const TREE: [u32; 51] = [
+static TREE: [u32; 51] = [
     0x1800_0011,
     0x3000_0000,
     0x4000_0009,
@@ -276,7 +276,7 @@ const TREE: [u32; 51] = [
     0x4000_0009,
 ];
 
-const FACTS: [u32; 20] = [
+static FACTS: [u32; 20] = [
     0x9000_0004,
     0xa000_0003,
     0xa000_0000,
@@ -299,7 +299,7 @@ const FACTS: [u32; 20] = [
     0xa000_0000,
 ];
 
-const PARSES: [u32; 44] = [
+static PARSES: [u32; 44] = [
     0x8040_0006,
     0x3000_0000,
     0x4000_0006,
@@ -346,26 +346,25 @@ const PARSES: [u32; 44] = [
     0x4000_0009,
 ];
 
+static CANDIDATES: [u32; 4] = [1, 0, 2, 1];
+
 // The job with its parses, so that nothing is asked for.
-pub fn run(range: Restriction, out: &mut [u8]) -> Edited {
-    let directory = DIRECTORY;
-    let words = WORDS;
-    let tree = TREE;
-    let facts = FACTS;
-    let parses = PARSES;
-    let candidates: [u32; 4] = [1, 0, 2, 1];
-    job::job(
-        &directory,
-        &words,
-        b"S::f($s)S::f(__placeholder_s)h($s)h(__placeholder_s)old()old()new2()new2()",
-        b"hnew2",
-        &tree,
-        b"old().f()",
-        &facts,
-        &parses,
-        b"new2()h(&new2())",
-        &candidates,
-        range,
-        out,
-    )
+pub fn job() -> GivenJob<'static> {
+    GivenJob {
+        inputs: Inputs {
+            directory: &DIRECTORY,
+            words: &WORDS,
+            bytes: b"S::f($s)S::f(__placeholder_s)h($s)h(__placeholder_s)old()old()new2()new2()",
+            fact_text: b"hnew2",
+            file: GivenFile {
+                words: &TREE,
+                text: b"old().f()",
+                facts: &FACTS,
+            },
+            parses: &PARSES,
+            parse_text: b"new2()h(&new2())",
+            range: None,
+        },
+        candidates: &CANDIDATES,
+    }
 }

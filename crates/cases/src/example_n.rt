@@ -1,16 +1,26 @@
 // Example N: no candidates, on a file of no bytes and without rules.
-use checks::Restriction;
-use edits::Edited;
+use job_checks::{GivenJob, Inputs};
+use trees::GivenFile;
+
+static TREE: [u32; 3] = [0x1800_0001, 0x3000_0000, 0x4000_0000];
 
 // The job; nothing but the file's tree has a word.
-fn run_on(tree: &[u32], range: Restriction, out: &mut [u8]) -> Edited {
-    let none = &tree[..0];
-    job::job(
-        none, none, b"", b"", tree, b"", none, none, b"", none, range, out,
-    )
-}
-
-pub fn run(range: Restriction, out: &mut [u8]) -> Edited {
-    let tree: [u32; 3] = [0x1800_0001, 0x3000_0000, 0x4000_0000];
-    run_on(&tree, range, out)
+pub fn job() -> GivenJob<'static> {
+    GivenJob {
+        inputs: Inputs {
+            directory: &[],
+            words: &[],
+            bytes: b"",
+            fact_text: b"",
+            file: GivenFile {
+                words: &TREE,
+                text: b"",
+                facts: &[],
+            },
+            parses: &[],
+            parse_text: b"",
+            range: None,
+        },
+        candidates: &[],
+    }
 }

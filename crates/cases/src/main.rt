@@ -2,8 +2,8 @@
 // what a front end would hand in, laid out as docs/FORMAT.md says; kinds that 01 gives no number are those of crates/examples.
 #![tactic(auto)]
 
-use checks::Restriction;
 use edits::Edited;
+use job_checks::GivenJob;
 use std::io;
 
 mod example_i; // example_i.rt: arguments in another order
@@ -12,66 +12,29 @@ mod example_l; // example_l.rt: a comment
 mod example_m; // example_m.rt: a match nested in another, with a prefix
 mod example_n; // example_n.rt: no candidates
 
-// No range is given.
-fn anywhere() -> Restriction {
-    Restriction {
-        given: false,
-        start: 0,
-        end: 0,
-    }
-}
-
-// Half a byte in hexadecimal.
-fn digit(n: u8) -> u8 {
-    if n < 10 {
-        return 48 + n;
-    }
-    if n < 16 {
-        return 87 + n;
-    }
-    63
-}
-
 // Writes bytes in hexadecimal.
-fn print_bytes(rt: &(impl Print + AllocGlobal), bytes: &[u8]) -> io::Result<()> {
-    let mut digits = Vec::new(rt.alloc());
+fn print_bytes(rt: &impl Print, bytes: &[u8]) -> io::Result<()> {
     for byte in bytes {
-        digits.push(digit(*byte / 16))?;
-        digits.push(digit(*byte % 16))?;
+        print!(rt; "{byte:02x}")?;
     }
-    rt.write_all(&digits)
+    Ok(())
 }
 
-// Writes a line: the letter and a space, and the list that a job wrote. What is no list has a question mark for it.
-fn print_line(
-    rt: &(impl Print + AllocGlobal),
-    letter: &[u8],
-    answer: Edited,
-    out: &[u8],
-) -> io::Result<()> {
-    rt.write_all(letter)?;
-    match answer {
-        Edited::Edits(n) => {
-            if n <= out.len() {
-                print_bytes(rt, &out[0..n])?;
-            }
-        }
-        Edited::Asked(_, _) => rt.write_all(b"?")?,
-        Edited::Refused(_) => rt.write_all(b"?")?,
+// Writes a line: the letter and a space, and the list that a job writes. What is no list has a question mark for it.
+fn print_line(rt: &impl Print, letter: char, job: GivenJob) -> io::Result<()> {
+    let mut out = [0; 64];
+    print!(rt; "{letter} ")?;
+    match job::job(job, &mut out) {
+        Ok(Edited::Edits { length }) => print_bytes(rt, out.get(..length).unwrap_or(&[]))?,
+        _ => print!(rt; "?")?,
     }
-    rt.write_all(b"\n")
+    println!(rt)
 }
 
 fn main(rt: HostRuntime) -> io::Result<()> {
-    let mut out = [0u8; 64];
-    let i = example_i::run(anywhere(), &mut out);
-    print_line(&rt, b"I ", i, &out)?;
-    let k = example_k::run(anywhere(), &mut out);
-    print_line(&rt, b"K ", k, &out)?;
-    let l = example_l::run(anywhere(), &mut out);
-    print_line(&rt, b"L ", l, &out)?;
-    let m = example_m::run(anywhere(), &mut out);
-    print_line(&rt, b"M ", m, &out)?;
-    let n = example_n::run(anywhere(), &mut out);
-    print_line(&rt, b"N ", n, &out)
+    print_line(&rt, 'I', example_i::job())?;
+    print_line(&rt, 'K', example_k::job())?;
+    print_line(&rt, 'L', example_l::job())?;
+    print_line(&rt, 'M', example_m::job())?;
+    print_line(&rt, 'N', example_n::job())
 }

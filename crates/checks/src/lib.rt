@@ -1,84 +1,83 @@
 // What is handed in and checked before rules are resolved: the rules, and the file's tree with its facts among the rules' trees.
 #![tactic(auto)]
 
-ghost use Rattle.std.specs.Prelude.{◌≡◌, [], ◌∷◌, ◌/◌, ◌≤◌, length};
-ghost use Rattle.errors.specs.Refusals.{ok};
-ghost use Rattle.errors.specs.Refusals.{in_turn};
-ghost use Rattle.syntax.specs.Checks.{WellFormed};
-ghost use Rattle.facts.specs.Keys.{Indexed};
-ghost use Rattle.rules.specs.declared.stages.Stage.TheVariants.{Forms};
-ghost use Rattle.checks.specs.Given.{file_of, rules_of, stage, trees_stage, given_outcome, is_reversed};
+ghost use Rattle.std.specs.Prelude.{◌≡◌, ◌/◌, ◌≤◌, length, IfOk};
+ghost use Rattle.trees.specs.Given.{outcome_of};
+ghost use Rattle.checks.specs.Given.{given_in, file_in, trees_outcome, given_outcome, found_rule, is_reversed};
 
 use errors::Refusal;
-use fragments::directory::is_directory;
-use rules::stages;
+use fragments::pairs::Pairs;
+use rules::numbering::Rule;
 use rules::stages::Stage;
+use rules::{numbering, stages};
+use trees::{File, GivenFile};
+use words::texts::Range;
 
-// The range that matches are restricted to, where one is given.
-#[derive(Clone, Copy)]
-pub struct Restriction {
-    pub given: bool,
-    pub start: usize,
-    pub end: usize,
+// The rules as they are handed in: all pairs, and how many bytes the text of their facts has.
+#[derive(Drop)]
+pub struct Rules<'a> {
+    pub pairs: Pairs<'a>,
+    pub fact_bytes: usize,
 }
 
-// Whether it is a range whose start is after its end.
-pub fn is_reversed(range: Restriction) -> bool
+impl<'a> Rules<'a> {
+    // The rule of a number.
+    pub fn rule(&self, number: usize) -> Option<Rule>
+        ensures { result ≡ found_rule self.now number }
+    {
+        numbering::rule_at(&self.pairs, number)
+    }
+}
+
+// Whether a range that matches are restricted to is one whose start is after its end.
+pub fn is_reversed(range: Option<Range>) -> bool
     ensures { result ≡ is_reversed range }
 {
-    range.given & (range.end < range.start)
+    range.is_some_and(|r| r.end < r.start)
+}
+
+// What of an answer is its refusal.
+fn outcome_of<T>(answer: &Result<T, Refusal>) -> Result<(), Refusal>
+    ensures { result ≡ outcome_of answer.now }
+{
+    match answer {
+        Ok(_) => Ok(()),
+        Err(refusal) => Err(*refusal),
+    }
 }
 
 // 18 to 21 of the rules' trees and of the file's, the lowest of their numbers, then 17.
-fn check_trees(
-    directory: &[u32],
-    words: &[u32],
-    bytes: &[u8],
-    fact_bytes: usize,
-    tree: &[u32],
-    text: &[u8],
-    facts: &[u32],
-    index: &mut [u64],
-    spare: &mut [u64],
-) -> Result<(), Refusal>
-    requires { length facts.now / 4 ≤ 16383 → (length facts.now / 4 ≤ length index.old) × (length facts.now / 4 ≤ length spare.old) }
-    ensures value { result ≡ in_turn (trees_stage (rules_of directory.now words.now bytes.now fact_bytes) (file_of tree.now text.now facts.now) ∷ stage Forms (rules_of directory.now words.now bytes.now fact_bytes) ∷ []) }
-    ensures well_formed { result ≡ ok → WellFormed tree.now × Indexed facts.now index.new }
+#[tactic(auto, using(crate::proofs::GivenLaws::trees_refuse, crate::proofs::GivenLaws::forms_decide, crate::proofs::GivenLaws::both_accepted))]
+fn check_trees<'a>(
+    rules: &Rules,
+    file: GivenFile<'a>,
+    index: &'a mut [u64],
+) -> Result<File<'a>, Refusal>
+    requires { length file.facts.now / 4 ≤ 16383 → length file.facts.now / 4 ≤ length index.old }
+    ensures value { outcome_of result ≡ trees_outcome rules.now (given_in file.entry) }
+    ensures file { IfOk result (λ accepted. file_in accepted ≡ given_in file.entry) }
 {
-    let of_rules = stages::check_stage(Stage::TreesWithFacts, directory, words, bytes, fact_bytes);
-    let of_file = trees::check_and_index_file(tree, text, facts, index, spare);
-    match errors::lowest(of_rules, of_file) {
-        Ok(()) => { stages::check_stage(Stage::Forms, directory, words, bytes, fact_bytes) }
-        Err(r) => Err(r),
-    }
+    let of_rules = stages::check_stage(Stage::Trees(Some(rules.fact_bytes)), &rules.pairs);
+    let of_file = trees::check_and_index_file(file, index);
+    errors::lowest(of_rules, outcome_of(&of_file))?;
+    stages::check_stage(Stage::Forms, &rules.pairs)?;
+    of_file
 }
 
-// All of them in turn, and the index of the file's facts where they are accepted.
-pub fn check_given(
-    directory: &[u32],
-    words: &[u32],
-    bytes: &[u8],
-    fact_bytes: usize,
-    tree: &[u32],
-    text: &[u8],
-    facts: &[u32],
-    index: &mut [u64],
-    spare: &mut [u64],
-) -> Result<(), Refusal>
-    requires { length facts.now / 4 ≤ 16383 → (length facts.now / 4 ≤ length index.old) × (length facts.now / 4 ≤ length spare.old) }
-    ensures value { result ≡ given_outcome (rules_of directory.now words.now bytes.now fact_bytes) (file_of tree.now text.now facts.now) }
-    ensures well_formed { result ≡ ok → WellFormed tree.now × Indexed facts.now index.new }
+// All of them in turn, and the file where they are accepted.
+#[tactic(auto, using(crate::proofs::GivenLaws::no_directory, crate::proofs::GivenLaws::lists_refuse, crate::proofs::GivenLaws::trees_decide))]
+pub fn check_given<'a>(
+    rules: &Rules,
+    file: GivenFile<'a>,
+    index: &'a mut [u64],
+) -> Result<File<'a>, Refusal>
+    requires { length file.facts.now / 4 ≤ 16383 → length file.facts.now / 4 ≤ length index.old }
+    ensures value { outcome_of result ≡ given_outcome rules.now (given_in file.entry) }
+    ensures file { IfOk result (λ accepted. file_in accepted ≡ given_in file.entry) }
 {
-    if is_directory(directory, words, bytes) {
-        match stages::check_stage(Stage::Lists, directory, words, bytes, fact_bytes) {
-            Ok(()) => {
-                check_trees(
-                    directory, words, bytes, fact_bytes, tree, text, facts, index, spare,
-                )
-            }
-            Err(r) => Err(r),
-        }
-    } else {
-        Err(Refusal::MalformedList)
+    if !rules.pairs.is_well_formed() {
+        return Err(Refusal::MalformedList);
     }
+    stages::check_stage(Stage::Lists, &rules.pairs)?;
+    check_trees(rules, file, index)
 }

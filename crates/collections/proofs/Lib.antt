@@ -4,5 +4,6 @@ pub mod PlaceLaws
 pub mod Collected
 pub mod Texts
 pub mod Slots
+pub mod Linked
 pub mod Theorem
 pub mod LinkLaws

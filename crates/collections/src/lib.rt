@@ -2,25 +2,22 @@
 // reach.
 #![tactic(auto)]
 
-ghost use Rattle.std.specs.Prelude.{◌≡◌, ℕ, ◌+◌, ◌*◌, ◌≤◌, ◌<◌, length};
-ghost use Rattle.nester.specs.Rows.{Held};
-ghost use Rattle.collections.specs.Links.{link_word, Linked};
+ghost use Rattle.std.specs.Prelude.{◌≡◌, ℕ, ◌≤◌, ◌<◌, length};
+ghost use Rattle.nester.specs.Rows.{row_at, Held};
+ghost use Rattle.collections.specs.Links.{Linked};
 
-use rows::matches;
+use nester::{Nesting, Row};
 
-// For each row that holds others, the place behind the last of them, as the first word of its link.
-pub fn link_rows(rows: &[u32], count: usize, links: &mut [u32])
-    requires count_bound { (count ≤ 1024) × (3 * count ≤ length links.old) }
-    requires held { Held rows.now count }
-    requires by_index { (k : ℕ) → k < count → link_word links.old k 0 ≡ 0 }
-    ensures { Linked rows.now count links.old links.new }
+// Tells each row that holds others the number behind the last of them.
+pub fn link_rows(rows: &mut [Row])
+    requires few { length rows.old ≤ 1024 }
+    requires held { Held rows.old (length rows.old) }
+    requires by_index { (k : ℕ) → k < length rows.old → (row_at rows.old k).end ≡ 0 }
+    ensures { Linked rows.old rows.new }
 {
-    let mut j: usize = 0;
-    while j < count {
-        let state = matches::word(rows, j, 2) as usize;
-        if 3 <= state {
-            links[3 * (state - 3)] = (j + 1) as u32;
+    for j in 0..rows.len() {
+        if let Nesting::Inside { row, .. } = rows[j].state {
+            rows[row as usize].end = (j + 1) as u16;
         }
-        j += 1;
     }
 }

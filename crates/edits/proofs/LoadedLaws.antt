@@ -7,7 +7,7 @@ use native.Mathlib.Omega.{arith}
 use lib.ListN.{length, length-append}
 use lib.Seq.{take_at, drop_at}
 use Rattle.words.specs.Fields.{word_value, word_of}
-use Rattle.rendering.specs.Events.{concat}
+use Rattle.std.specs.List.{concat}
 use Rattle.rendering.proofs.RoomLaws.{length-concat}
 use Rattle.edits.specs.Edits.{Edit, encode}
 use Rattle.edits.specs.Made.{Rise}
@@ -21,7 +21,7 @@ unfolding encode
 length_more e es = simp length-append (omega arith)
 
 pub length-encode : (es : List Edit) → length (encode es) ≡ 12 * length es + length (concat (map (λ (e : Edit). e.text) es))
-unfolding encode concat
+unfolding encode
 length-encode [] = refl
 length-encode (e ∷ es) = omega (arith, length_more e es, length-concat e.text (map (λ (e : Edit). e.text) es), length-encode es)
 

@@ -9,31 +9,32 @@ use lib.Dec.{ltb}
 use lib.ListN.{length, take, drop, take-append-drop}
 use lib.Seq.{take-append-le, drop-drop, take-take, take-add, take_all, drop-length, drop_at, length-take-le}
 use Rattle.nester.specs.Places.{Item}
-use Rattle.rendering.specs.Events.{NoRoom, Out, fine, event, after, Text}
+use Rattle.std.specs.Prelude.{Result, Ok, Err}
+use Rattle.rendering.specs.Events.{Event, NoRoom, after, Text}
 use Rattle.edits.specs.Edits.{Edit, edit_of, write}
 use Rattle.edits.specs.Made.{Written, Rise, made, all_made, bytes_from, woven}
 
 -- ---- one edit for each item
 
 module _ (start_of end_of : ℕ → ℕ) where
-  pub written : (xs : List (Item Text)) (room : ℕ) (es : List Edit) → write start_of end_of room xs ≡ fine es → Written start_of end_of xs es
+  pub written : (xs : List (Item Text)) (room : ℕ) (es : List Edit) → write start_of end_of room xs ≡ Ok es → Written start_of end_of xs es
   unfolding write
   written [] room es h = let e : es ≡ [] = cc in rw e Written.nil
   written (x ∷ xs) room es h = by (ltb room 12) (x.what (room - 12)) refl (written xs) h
     where
-      by : (b : Bool) (o : Out (List ℕ)) → x.what (room - 12) ≡ o
-          → ((r : ℕ) (rest : List Edit) → write start_of end_of r xs ≡ fine rest → Written start_of end_of xs rest)
-          → cond b (event NoRoom)
-          (after o λ text. after (write start_of end_of (room - 12 - length text) xs) λ rest. fine (edit_of start_of end_of x.node text ∷ rest)) ≡ fine es
+      by : (b : Bool) (o : Result (List ℕ) Event) → x.what (room - 12) ≡ o
+          → ((r : ℕ) (rest : List Edit) → write start_of end_of r xs ≡ Ok rest → Written start_of end_of xs rest)
+          → cond b (Err NoRoom)
+          (after o λ text. after (write start_of end_of (room - 12 - length text) xs) λ rest. Ok (edit_of start_of end_of x.node text ∷ rest)) ≡ Ok es
           → Written start_of end_of (x ∷ xs) es
       by true o p more q = absurd (let z : ◌≡◌ {A = ℕ} 0 1 = cc in omega arith)
-      by false (event e) p more q = absurd (let z : ◌≡◌ {A = ℕ} 0 1 = cc in omega arith)
-      by false (fine text) p more q = rest (write start_of end_of (room - 12 - length text) xs) refl q
+      by false (Err e) p more q = absurd (let z : ◌≡◌ {A = ℕ} 0 1 = cc in omega arith)
+      by false (Ok text) p more q = rest (write start_of end_of (room - 12 - length text) xs) refl q
         where
-          rest : (w : Out (List Edit)) → write start_of end_of (room - 12 - length text) xs ≡ w
-              → (after w λ rest. fine (edit_of start_of end_of x.node text ∷ rest)) ≡ fine es → Written start_of end_of (x ∷ xs) es
-          rest (event e) z y = absurd (let z : ◌≡◌ {A = ℕ} 0 1 = cc in omega arith)
-          rest (fine r) z y =
+          rest : (w : Result (List Edit) Event) → write start_of end_of (room - 12 - length text) xs ≡ w
+              → (after w λ rest. Ok (edit_of start_of end_of x.node text ∷ rest)) ≡ Ok es → Written start_of end_of (x ∷ xs) es
+          rest (Err e) z y = absurd (let z : ◌≡◌ {A = ℕ} 0 1 = cc in omega arith)
+          rest (Ok r) z y =
               let e : es ≡ edit_of start_of end_of x.node text ∷ r = cc in
               rw e (Written.more refl refl (room - 12) p (more (room - 12 - length text) r z))
 

@@ -1,11 +1,11 @@
 -- The edit list, document 01: "Edit list, bytes, words little-endian: for each edit start (kind 5), end (kind 6), length (kind 7),
 -- replacement"; "the list is written from front to back .. and the first event ends it", "an edit's three words before its text".
 -- Assumes nothing.
-use Rattle.std.specs.Prelude.{ℕ, ◌-◌, cond, List, [], ◌∷◌, ◌++◌, ltb, length}
+use Rattle.std.specs.Prelude.{ℕ, ◌-◌, cond, List, [], ◌∷◌, ◌++◌, ltb, length, Result, Ok, Err}
 use Rattle.words.specs.Fields.{edit_start, edit_end, edit_length}
 use Rattle.words.specs.Buffer.{word_bytes}
 use Rattle.nester.specs.Places.{Item}
-use Rattle.rendering.specs.Events.{NoRoom, Out, fine, event, after, Text}
+use Rattle.rendering.specs.Events.{Event, NoRoom, after, Text}
 
 pub record Edit : Type 0 where
   pub start : ℕ
@@ -27,8 +27,8 @@ module _ (start_of end_of : ℕ → ℕ) where
   edit_of n text = record { start = start_of n; end = end_of n; text = text }
 
   -- one edit for each item, in so much room: 30 where its three words do not fit
-  unfoldable pub write : ℕ → List (Item Text) → Out (List Edit)
-  write room [] = fine []
+  unfoldable pub write : ℕ → List (Item Text) → Result (List Edit) Event
+  write room [] = Ok []
   write room (x ∷ xs) =
-      cond (ltb room 12) (event NoRoom)
-      (after (x.what (room - 12)) λ text. after (write (room - 12 - length text) xs) λ es. fine (edit_of x.node text ∷ es))
+      cond (ltb room 12) (Err NoRoom)
+      (after (x.what (room - 12)) λ text. after (write (room - 12 - length text) xs) λ es. Ok (edit_of x.node text ∷ es))

@@ -2,16 +2,16 @@
 -- demand 2 defines. Edits rise without overlap, that is, none starts before the one ahead ends, and with all of them made the file is these
 -- texts and its bytes outside those ranges, all of them, unchanged and in order."
 -- Assumes nothing.
-use Rattle.std.specs.Prelude.{◌≡◌, ℕ, ◌-◌, ◌≤◌, List, [], ◌∷◌, ◌++◌, take, drop}
+use Rattle.std.specs.Prelude.{◌≡◌, ℕ, ◌-◌, ◌≤◌, List, [], ◌∷◌, ◌++◌, take, drop, Ok}
 use Rattle.nester.specs.Places.{Item}
-use Rattle.rendering.specs.Events.{fine, Text}
+use Rattle.rendering.specs.Events.{Text}
 use Rattle.edits.specs.Edits.{Edit}
 
 -- the edits are one for each item, in order, each at exactly its node's range and with its text
 pub data Written (start_of end_of : ℕ → ℕ) : List (Item Text) → List Edit → Type 0 where
   nil : Written start_of end_of [] []
   more : {x : Item Text} {xs : List (Item Text)} {e : Edit} {es : List Edit} → e.start ≡ start_of x.node → e.end ≡ end_of x.node
-      → (room : ℕ) → x.what room ≡ fine e.text → Written start_of end_of xs es → Written start_of end_of (x ∷ xs) (e ∷ es)
+      → (room : ℕ) → x.what room ≡ Ok e.text → Written start_of end_of xs es → Written start_of end_of (x ∷ xs) (e ∷ es)
 
 -- edits rise from one byte to another without overlap
 abbrev pub Rise : ℕ → ℕ → List Edit → Type 0

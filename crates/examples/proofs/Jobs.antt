@@ -1,38 +1,29 @@
 -- A job in stages: where nothing is refused, its list is a trace in the buffer's room, and that trace computes, over trees that are decoded once.
 -- Assumes nothing.
-use Prim.Native.Nat.{ℕ, ◌/◌}
+use Prim.Native.Nat.{ℕ}
 use mathlib.Core.Path.{◌≡◌, refl, ap, ap₂, ◌∙◌, fun_ext}
-use mathlib.Core.Bool.{Bool, true}
 use mathlib.Core.List.{List, [], map}
 use lib.ListN.{length}
+use Rattle.std.specs.Prelude.{Option, Some, None, Result, Ok}
 use Rattle.errors.specs.Refusals.{ok}
 use Rattle.words.specs.Buffer.{used_of, filled}
 use Rattle.syntax.specs.Trees.{Elems}
-use Rattle.syntax.specs.Accessors.{element_at, by_itself}
-use Rattle.fragments.specs.Pairs.{Pair, pair_at, tree_of, facts_of}
-use Rattle.rules.specs.declared.forms.TemplateTree.{TemplateTree}
-use Rattle.rules.specs.declared.forms.TemplateTree.TheVariants.{Absent, Own, StandIn, Missing}
+use Rattle.syntax.specs.Siblings.{kind_of}
+use Rattle.fragments.specs.declared.forms.Form.TheVariants.{Expression}
+use Rattle.paths.specs.Steps.{SideTree}
+use Rattle.rules.specs.declared.forms.TemplateTree.TheVariants.{Own}
 use Rattle.rules.specs.declared.numbering.Rule.{Rule}
-use Rattle.rules.specs.declared.numbering.Found.{Found}
-use Rattle.rules.specs.declared.numbering.Found.TheVariants.{NoSuchRule, At}
 use Rattle.rules.specs.Numbering.{rules, rule_at}
-use Rattle.rule_paths.specs.RulePaths.{side_at}
-use Rattle.captures.specs.Attempts.{Attempt, failed}
+use Rattle.captures.specs.Attempts.{Attempt}
 use Rattle.matcher.specs.FileFacts.{module_of}
-use Rattle.matcher.specs.Tokens.{comma_sheet}
-use Rattle.prepared.specs.Rules.{matcher_for}
-use Rattle.get_match.specs.Templates.{renders}
-use Rattle.get_match.specs.GetMatch.{try_match}
-use Rattle.rule_match.specs.RuleMatch.{template_renders, calls, found_match}
-use Rattle.preparing.specs.Forms.{template_form}
 use Rattle.parses.specs.Parses.{parses_of}
 use Rattle.candidates.specs.Candidates.{has}
 use Rattle.nester.specs.Matches.{Match, matches}
 use Rattle.nester.specs.Nest.{Nest, none, nest, start_at, end_at}
 use Rattle.nester.specs.Places.{items}
 use Rattle.templates.specs.Pieces.{pieces}
-use Rattle.readying.specs.Templates.{fragment_of, rule_fragments, kind_of, rule_kind}
-use Rattle.rendering.specs.Events.{Out, fine, after}
+use Rattle.readying.specs.Templates.{fragment_of, found_template, tree_fragments, tree_kind}
+use Rattle.rendering.specs.Events.{Event, after}
 use Rattle.rendering.specs.Texts.{Fragment, Setting, rendered}
 use Rattle.rendering.specs.Traces.{Trace, within, rendered_trace}
 use Rattle.rendering.proofs.Theorem.{items-within}
@@ -45,22 +36,37 @@ use Rattle.job_answers.specs.Collected.{matches_in, setting_of}
 use Rattle.job_answers.specs.Answers.{list_in}
 use Rattle.examples.specs.Table.{AJob, Answer, JobDone, answered}
 use Rattle.examples.proofs.Decoding.{decoded_tree, tree_is}
+use Rattle.examples.proofs.Attempts.{match_over, match_is}
 
 -- the rule of a pair's expressions
 abbrev pub rule : ℕ → Rule
-rule k = record { pair = k; form = 0; template = Own }
+rule k = record { pair = k; form = Expression; template = Own }
 
 -- the answer that a list's trace gives in a buffer
 abbrev pub answer_in : List ℕ → Trace → Answer
 answer_in out list = JobDone (answer_of (within list (used_of (length out)))) (filled out (bytes_of (within list (used_of (length out)))))
 
--- a form's tree, on a side
-abbrev root_over : Pair → ℕ → ℕ → Elems
-root_over p side form = decoded_tree (tree_of side form p)
+-- a template's fragments and the kind of its root, over the same
+abbrev fragments_over : List ℕ → Option SideTree → ℕ → List Fragment
+fragments_over fact_text None «module» = []
+fragments_over fact_text (Some t) «module» = map (fragment_of fact_text t.side.code t.side.facts «module») (pieces t.side (decoded_tree t.words))
+
+fragments_are : (fact_text : List ℕ) (template : Option SideTree) («module» : ℕ)
+    → tree_fragments fact_text template «module» ≡ fragments_over fact_text template «module»
+fragments_are fact_text None «module» = refl
+fragments_are fact_text (Some t) «module» = rw (tree_is t.words)
+
+abbrev kind_over : Option SideTree → ℕ
+kind_over None = 0
+kind_over (Some t) = kind_of (decoded_tree t.words)
+
+kind_is : (template : Option SideTree) → tree_kind template ≡ kind_over template
+kind_is None = refl
+kind_is (Some t) = rw (tree_is t.words)
 
 -- the list by its parts
-abbrev list_by : Elems → Setting → Nest → ℕ → Out (List ℕ)
-list_by t S c room = after (write S.start_of S.end_of room (items t (rendered S) c)) λ es. fine (encode es)
+abbrev list_by : Elems → Setting → Nest → ℕ → Result (List ℕ) Event
+list_by t S c room = after (write S.start_of S.end_of room (items t (rendered S) c)) λ es. Ok (encode es)
 
 abbrev trace_by : Elems → Setting → Nest → Trace
 trace_by t S c = list_trace S.start_of S.end_of (items t (rendered_trace S) c)
@@ -72,64 +78,10 @@ module _ (j : Job) where
   abbrev file_tree : Elems
   file_tree = decoded_tree j.file.words
 
-  abbrev pair_of : Rule → Pair
-  pair_of r = pair_at r.pair j.directory j.words j.bytes
+  abbrev template_of : Option Rule → Option SideTree
+  template_of found = found_template (rules_in j) found
 
-  abbrev form_of : Rule → ℕ
-  form_of r = template_form r.form r.template
-
-  -- the match of a rule that was found
-  abbrev renders_over : Pair → ℕ → TemplateTree → ℕ → Bool
-  renders_over p form Absent n = true
-  renders_over p form Own n = renders (length (tree_of 1 form p) / 3) (side_at p 1 form) (root_over p 1 form) j.file.facts n
-  renders_over p form StandIn n = renders (length (tree_of 1 4 p) / 3) (side_at p 1 4) (root_over p 1 4) j.file.facts n
-  renders_over p form Missing n = true
-
-  renders_is : (p : Pair) (form : ℕ) (t : TemplateTree) (n : ℕ) → template_renders p form t j.file n ≡ renders_over p form t n
-  renders_is p form Absent n = refl
-  renders_is p form Own n = rw (tree_is (tree_of 1 form p))
-  renders_is p form StandIn n = rw (tree_is (tree_of 1 4 p))
-  renders_is p form Missing n = refl
-
-  abbrev match_by : Rule → ℕ → Elems → Elems → Bool → Attempt
-  match_by r n root tree is_rendered =
-      let x = side_at (pair_of r) 0 r.form in
-      try_match (calls (pair_of r) r.form j.file) (matcher_for x root j.file.text tree j.file.facts comma_sheet) root j.range
-      (by_itself (element_at n tree)) is_rendered
-
-  abbrev match_over : Found → ℕ → Attempt
-  match_over NoSuchRule n = failed
-  match_over (At r) n = match_by r n (root_over (pair_of r) 0 r.form) file_tree (renders_over (pair_of r) r.form r.template n)
-
-  match_is : (found : Found) (n : ℕ) → found_match (rules_in j) j.file found j.range n ≡ match_over found n
-  match_is NoSuchRule n = refl
-  match_is (At r) n =
-      let p = pair_of r in
-      ap₂ (λ root tree. match_by r n root tree (template_renders p r.form r.template j.file n))
-      (tree_is (tree_of 0 r.form p)) (tree_is j.file.words)
-      ∙ ap (match_by r n (root_over p 0 r.form) file_tree) (renders_is p r.form r.template n)
-
-  -- its template in a module, and the kind of that one's root
-  abbrev fragments_over : Found → ℕ → List Fragment
-  fragments_over NoSuchRule «module» = []
-  fragments_over (At r) «module» =
-      let p = pair_of r in
-      let x = side_at p 1 (form_of r) in
-      map (fragment_of j.fact_text x.code (facts_of 1 (form_of r) p) «module») (pieces x (root_over p 1 (form_of r)))
-
-  fragments_are : (found : Found) («module» : ℕ) → rule_fragments j.fact_text (rules_in j) found «module» ≡ fragments_over found «module»
-  fragments_are NoSuchRule «module» = refl
-  fragments_are (At r) «module» = rw (tree_is (tree_of 1 (form_of r) (pair_of r)))
-
-  abbrev kind_over : Found → ℕ
-  kind_over NoSuchRule = 0
-  kind_over (At r) = kind_of (root_over (pair_of r) 1 (form_of r))
-
-  kind_is : (found : Found) → rule_kind (rules_in j) found ≡ kind_over found
-  kind_is NoSuchRule = refl
-  kind_is (At r) = rw (tree_is (tree_of 1 (form_of r) (pair_of r)))
-
-  -- the matches, and what they are rendered with
+  -- what the matches are rendered with
   abbrev setting_by : Elems → (Match → List Fragment) → (Match → ℕ) → Setting
   setting_by t fragments kind = record {
     file = j.file.text;
@@ -143,13 +95,13 @@ module _ (j : Job) where
   -- by the rules left
   module _ (rs : List Rule) where
     abbrev attempts : ℕ → ℕ → Attempt
-    attempts n r = match_over (rule_at rs r) n
+    attempts n r = match_over (rules_in j) j.file j.range (rule_at rs r) n
 
     abbrev templates : Match → List Fragment
-    templates m = fragments_over (rule_at rs m.rule) (module_of j.file.facts m.node)
+    templates m = fragments_over j.fact_text (template_of (rule_at rs m.rule)) (module_of j.file.facts m.node)
 
     abbrev kinds : Match → ℕ
-    kinds m = kind_over (rule_at rs m.rule)
+    kinds m = kind_over (template_of (rule_at rs m.rule))
 
     abbrev matches_over : List Match
     matches_over = matches file_tree (length rs) attempts (has (candidates_in j))
@@ -166,14 +118,14 @@ module _ (j : Job) where
   matches_are : matches_in j ≡ matches_over left
   matches_are =
       ap (λ attempt. matches (tree_in j) (length left) attempt (has (candidates_in j)))
-      (fun_ext λ (n : ℕ). fun_ext λ (r : ℕ). match_is (rule_at left r) n)
+      (fun_ext λ (n : ℕ). fun_ext λ (r : ℕ). match_is (rules_in j) j.file j.range (rule_at left r) n)
       ∙ ap (λ t. matches t (length left) (attempts left) (has (candidates_in j))) (tree_is j.file.words)
 
   setting_is : setting_of j ≡ setting_over left
   setting_is =
       ap₂ (setting_by (tree_in j))
-      (fun_ext λ (m : Match). fragments_are (rule_at left m.rule) (module_of j.file.facts m.node))
-      (fun_ext λ (m : Match). kind_is (rule_at left m.rule))
+      (fun_ext λ (m : Match). fragments_are j.fact_text (template_of (rule_at left m.rule)) (module_of j.file.facts m.node))
+      (fun_ext λ (m : Match). kind_is (template_of (rule_at left m.rule)))
       ∙ ap (λ t. setting_by t (templates left) (kinds left)) (tree_is j.file.words)
 
   list_is : (room : ℕ) → list_in j room ≡ within (trace_of left) room

@@ -2,20 +2,23 @@
 -- and the answer. Kinds that 01 gives no number: tokens have those of 02 c, 12 number, 128 plus the byte for punctuation, and 14 `::`; nodes
 -- 67 path expression, 68 binary expression, 70 prefix expression, 2,048 source file.
 -- Assumes nothing.
-use Rattle.std.specs.Prelude.{ℕ, ◌+◌, ◌*◌, true, false, List, [], ◌∷◌, ◌++◌, length, replicate}
+use Rattle.std.specs.Prelude.{ℕ, ◌+◌, ◌*◌, List, [], ◌∷◌, ◌++◌, length, replicate, cond, Option, is_some, unwrap_or, Some, None, Result, Ok, Err}
+use Rattle.std.specs.List.{flat_map}
+use Rattle.errors.specs.declared.Refusal.{Refusal}
 use Rattle.errors.specs.declared.Refusal.TheVariants.{MissingParenthesis, UnknownKind, NoName, EndsBeforeClosingBrace, UnexpectedToken, NoRoom}
+use Rattle.words.specs.declared.texts.Range.{Range}
 use Rattle.words.specs.Fields.{word_of}
 use Rattle.words.specs.Texts.{stand_in_prefix}
 use Rattle.words.specs.Buffer.{used_of}
 use Rattle.parsing.specs.Reading.{Reading, read, refused, placeholder, reading}
-use Rattle.captures.specs.Effects.{unbound}
-use Rattle.checks.specs.declared.Restriction.{Restriction}
-use Rattle.answers.specs.declared.Case.TheVariants.{Matched}
+use Rattle.fragments.specs.Pairs.{Pairs, pairs_of}
+use Rattle.captures.specs.declared.SelfKind.TheVariants.{Owned}
 use Rattle.answers.specs.declared.NodeMatch.{NodeMatch}
-use Rattle.checks.specs.Given.{File, file_of, Rules, rules_of}
+use Rattle.checks.specs.declared.Rules.{Rules}
+use Rattle.checks.specs.Given.{File, file_of}
 use Rattle.match_node.specs.MatchNode.{matched_node, buffer_after}
 use Rattle.edits.specs.declared.Edited.{Edited}
-use Rattle.edits.specs.declared.Edited.TheVariants.{Refused, Asked, Edits}
+use Rattle.edits.specs.declared.Edited.TheVariants.{Asked, Edits}
 use Rattle.job_checks.specs.Checks.{Job, job_of}
 use Rattle.job_answers.specs.Answers as job
 
@@ -23,14 +26,14 @@ use Rattle.job_answers.specs.Answers as job
 -- buffer
 pub data Question : Type 0 where
   ReadingTokens : (words text : List ℕ) → Question
-  MatchingOneNode : (rules : Rules) (file : File) (rule : ℕ) (range : Restriction) (node : ℕ) (out : List ℕ) → Question
+  MatchingOneNode : (rules : Rules) (file : File) (rule : ℕ) (range : Option Range) (node : ℕ) (out : List ℕ) → Question
   AJob : (job : Job) (out : List ℕ) → Question
 
 -- what is answered, and the buffer then
 pub data Answer : Type 0 where
   TokensRead : (result : Reading) → Answer
-  NodeMatched : (result : NodeMatch) (buffer : List ℕ) → Answer
-  JobDone : (result : Edited) (buffer : List ℕ) → Answer
+  NodeMatched : (result : Result (Option NodeMatch) Refusal) (buffer : List ℕ) → Answer
+  JobDone : (result : Result Edited Refusal) (buffer : List ℕ) → Answer
 
 -- the answer that the operation's definition gives
 abbrev pub answered : Question → Answer
@@ -66,14 +69,14 @@ name_at start end = node_at 67 5 start end ++ node_at 2 4 start end ++ node_at 3
 abbrev pub example_A : Example
 example_A = record {
   question = ReadingTokens (tok 8 1 ∷ tok 1 1 ∷ []) (36 ∷ 97 ∷ []);
-  answer = TokensRead (read (placeholder (record { start = 0; end = 2; name = record { kind = 1; start = 1; length = 1 }; nots = [] }) ∷ []));
+  answer = TokensRead (read (placeholder (record { start = 0; end = 2; name = record { kind = 1; range = record { start = 1; end = 2 } }; nots = [] }) ∷ []));
 }
 
 -- B `${a:not(kind(literal))}`: one `not`
 abbrev pub example_B : Example
 example_B = record {
   question = ReadingTokens (tok 8 1 ∷ tok 9 1 ∷ tok 1 1 ∷ tok 10 1 ∷ tok 1 3 ∷ tok 168 1 ∷ tok 1 4 ∷ tok 168 1 ∷ tok 1 7 ∷ tok 5 1 ∷ tok 5 1 ∷ tok 6 1 ∷ []) (36 ∷ 123 ∷ 97 ∷ 58 ∷ 110 ∷ 111 ∷ 116 ∷ 40 ∷ 107 ∷ 105 ∷ 110 ∷ 100 ∷ 40 ∷ 108 ∷ 105 ∷ 116 ∷ 101 ∷ 114 ∷ 97 ∷ 108 ∷ 41 ∷ 41 ∷ 125 ∷ []);
-  answer = TokensRead (read (placeholder (record { start = 0; end = 23; name = record { kind = 1; start = 2; length = 1 }; nots = 1 ∷ [] }) ∷ []));
+  answer = TokensRead (read (placeholder (record { start = 0; end = 23; name = record { kind = 1; range = record { start = 2; end = 3 } }; nots = 1 ∷ [] }) ∷ []));
 }
 
 -- C `${a:kind(foo}`: 9
@@ -111,24 +114,62 @@ example_G = record {
   answer = TokensRead (refused UnexpectedToken);
 }
 
--- a pattern without a template, with an expression tree alone, and a file
-pub record Search : Type 0 where
+-- the code of a placeholder whose name is one byte
+abbrev pub stand_in : ℕ → List ℕ
+stand_in name = stand_in_prefix ++ (name ∷ [])
+
+-- a pattern, or a template, with an expression tree alone; and what stands for a template that is not given
+pub record Side : Type 0 where
   pub list : List ℕ
   pub text : List ℕ
   pub code : List ℕ
   pub tree : List ℕ
   pub facts : List ℕ
+
+abbrev pub no_side : Side
+no_side = record { list = []; text = []; code = []; tree = []; facts = [] }
+
+pub record Replacement : Type 0 where
+  pub pattern : Side
+  pub template : Option Side
+
+abbrev pub template_in : Replacement → Side
+template_in r = unwrap_or r.template no_side
+
+-- they are handed in as pairs: docs/FORMAT.md, "Rules"
+abbrev pub row_of : Replacement → List ℕ
+row_of r =
+    let p = r.pattern in
+    let t = template_in r in
+    length p.list ∷ length p.text ∷ length p.code ∷ cond (is_some r.template) 1 0 ∷ length t.list ∷ length t.text ∷ length t.code
+    ∷ length p.tree ∷ length p.facts ∷ length t.tree ∷ length t.facts ∷ replicate 16 0
+
+abbrev pub words_of : Replacement → List ℕ
+words_of r =
+    let p = r.pattern in
+    let t = template_in r in
+    p.list ++ t.list ++ p.tree ++ p.facts ++ t.tree ++ t.facts
+
+abbrev pub bytes_of : Replacement → List ℕ
+bytes_of r =
+    let p = r.pattern in
+    let t = template_in r in
+    p.text ++ p.code ++ t.text ++ t.code
+
+abbrev pub pairs_with : List Replacement → Pairs
+pairs_with rs = pairs_of (flat_map row_of rs) (flat_map words_of rs) (flat_map bytes_of rs)
+
+-- a pattern without a template, and a file
+pub record Search : Type 0 where
+  pub pattern : Side
   pub file : File
 
--- it is handed in as one pair: docs/FORMAT.md, "Rules"
 abbrev pub rules_in : Search → Rules
-rules_in s =
-    rules_of (length s.list ∷ length s.text ∷ length s.code ∷ 0 ∷ 0 ∷ 0 ∷ 0 ∷ length s.tree ∷ length s.facts ∷ replicate 18 0)
-    (s.list ++ s.tree ++ s.facts) (s.text ++ s.code) 0
+rules_in s = record { pairs = pairs_with (record { pattern = s.pattern; template = None } ∷ []); fact_bytes = 0 }
 
 -- its one rule with node 1 of the file, in no range, with a buffer of eight bytes
-abbrev pub anywhere : Restriction
-anywhere = record { given = false; start = 0; end = 0 }
+abbrev pub anywhere : Option Range
+anywhere = None
 
 abbrev pub searched : Search → Question
 searched s = MatchingOneNode (rules_in s) s.file 0 anywhere 1 (replicate 8 0)
@@ -137,39 +178,32 @@ searched s = MatchingOneNode (rules_in s) s.file 0 anywhere 1 (replicate 8 0)
 abbrev pub binds_one : ℕ → ℕ → Answer
 binds_one start end =
     NodeMatched
-    (record { case = Matched 0; bindings = record { bound = true; start = start; end = end; stars = 0; self_kind = 0 } ∷ replicate 7 unbound })
+    (Ok (Some (record {
+      comments_length = 0;
+      bindings = Some (record { start = start; end = end; stars = 0; self_kind = Owned }) ∷ replicate 7 None;
+    })))
     (replicate 8 0)
 
 -- H `f($a)` matches `f(1,)`; `f` resolves to 1 on both sides
 abbrev pub search_H : Search
 search_H = record {
-  list = tok 1 1 ∷ tok 168 1 ∷ tok 8 1 ∷ tok 1 1 ∷ tok 5 1 ∷ [];
-  text = 102 ∷ 40 ∷ 36 ∷ 97 ∷ 41 ∷ [];
-  code = 102 ∷ 40 ∷ 95 ∷ 95 ∷ 112 ∷ 108 ∷ 97 ∷ 99 ∷ 101 ∷ 104 ∷ 111 ∷ 108 ∷ 100 ∷ 101 ∷ 114 ∷ 95 ∷ 97 ∷ 41 ∷ [];
-  tree =
-      node_at 64 14 0 18
-      ++ node_at 67 5 0 1
-      ++ node_at 2 4 0 1
-      ++ node_at 3 3 0 1
-      ++ node_at 4 2 0 1
-      ++ token_at 1 0 1
-      ++ node_at 7 8 1 18
-      ++ token_at 168 1 2
-      ++ node_at 67 5 2 17
-      ++ node_at 2 4 2 17
-      ++ node_at 3 3 2 17
-      ++ node_at 4 2 2 17
-      ++ token_at 1 2 17
-      ++ token_at 5 17 18;
-  facts = fact_of 1 2 1 3 0;
+  pattern = record {
+    list = tok 1 1 ∷ tok 168 1 ∷ tok 8 1 ∷ tok 1 1 ∷ tok 5 1 ∷ [];
+    text = 102 ∷ 40 ∷ 36 ∷ 97 ∷ 41 ∷ [];
+    code = 102 ∷ 40 ∷ stand_in 97 ++ 41 ∷ [];
+    tree =
+        node_at 64 14 0 18
+        ++ name_at 0 1
+        ++ node_at 7 8 1 18
+        ++ token_at 168 1 2
+        ++ name_at 2 17
+        ++ token_at 5 17 18;
+    facts = fact_of 1 2 1 3 0;
+  };
   file = file_of
       (node_at 2048 13 0 5
       ++ node_at 64 12 0 5
-      ++ node_at 67 5 0 1
-      ++ node_at 2 4 0 1
-      ++ node_at 3 3 0 1
-      ++ node_at 4 2 0 1
-      ++ token_at 1 0 1
+      ++ name_at 0 1
       ++ node_at 7 6 1 5
       ++ token_at 168 1 2
       ++ node_at 66 2 2 3
@@ -186,34 +220,24 @@ example_H = record { question = searched search_H; answer = binds_one 2 3 }
 -- J `f($a,)` matches `f(1)`; `f` resolves to 1 on both sides
 abbrev pub search_J : Search
 search_J = record {
-  list = tok 1 1 ∷ tok 168 1 ∷ tok 8 1 ∷ tok 1 1 ∷ tok 4 1 ∷ tok 5 1 ∷ [];
-  text = 102 ∷ 40 ∷ 36 ∷ 97 ∷ 44 ∷ 41 ∷ [];
-  code = 102 ∷ 40 ∷ 95 ∷ 95 ∷ 112 ∷ 108 ∷ 97 ∷ 99 ∷ 101 ∷ 104 ∷ 111 ∷ 108 ∷ 100 ∷ 101 ∷ 114 ∷ 95 ∷ 97 ∷ 44 ∷ 41 ∷ [];
-  tree =
-      node_at 64 15 0 19
-      ++ node_at 67 5 0 1
-      ++ node_at 2 4 0 1
-      ++ node_at 3 3 0 1
-      ++ node_at 4 2 0 1
-      ++ token_at 1 0 1
-      ++ node_at 7 9 1 19
-      ++ token_at 168 1 2
-      ++ node_at 67 5 2 17
-      ++ node_at 2 4 2 17
-      ++ node_at 3 3 2 17
-      ++ node_at 4 2 2 17
-      ++ token_at 1 2 17
-      ++ token_at 4 17 18
-      ++ token_at 5 18 19;
-  facts = fact_of 1 2 1 3 0;
+  pattern = record {
+    list = tok 1 1 ∷ tok 168 1 ∷ tok 8 1 ∷ tok 1 1 ∷ tok 4 1 ∷ tok 5 1 ∷ [];
+    text = 102 ∷ 40 ∷ 36 ∷ 97 ∷ 44 ∷ 41 ∷ [];
+    code = 102 ∷ 40 ∷ stand_in 97 ++ 44 ∷ 41 ∷ [];
+    tree =
+        node_at 64 15 0 19
+        ++ name_at 0 1
+        ++ node_at 7 9 1 19
+        ++ token_at 168 1 2
+        ++ name_at 2 17
+        ++ token_at 4 17 18
+        ++ token_at 5 18 19;
+    facts = fact_of 1 2 1 3 0;
+  };
   file = file_of
       (node_at 2048 12 0 4
       ++ node_at 64 11 0 4
-      ++ node_at 67 5 0 1
-      ++ node_at 2 4 0 1
-      ++ node_at 3 3 0 1
-      ++ node_at 4 2 0 1
-      ++ token_at 1 0 1
+      ++ name_at 0 1
       ++ node_at 7 5 1 4
       ++ token_at 168 1 2
       ++ node_at 66 2 2 3
@@ -226,44 +250,10 @@ search_J = record {
 abbrev pub example_J : Example
 example_J = record { question = searched search_J; answer = binds_one 2 3 }
 
--- the code of a placeholder whose name is one byte
-abbrev pub stand_in : ℕ → List ℕ
-stand_in name = stand_in_prefix ++ (name ∷ [])
-
--- a pattern, or a template, with an expression tree alone
-pub record Side : Type 0 where
-  pub list : List ℕ
-  pub text : List ℕ
-  pub code : List ℕ
-  pub tree : List ℕ
-  pub facts : List ℕ
-
-pub record Replacement : Type 0 where
-  pub pattern : Side
-  pub template : Side
-
--- they are handed in as pairs: docs/FORMAT.md, "Rules"
-abbrev pub row_of : Replacement → List ℕ
-row_of r =
-    let p = r.pattern in
-    let t = r.template in
-    length p.list ∷ length p.text ∷ length p.code ∷ 1 ∷ length t.list ∷ length t.text ∷ length t.code
-    ∷ length p.tree ∷ length p.facts ∷ length t.tree ∷ length t.facts ∷ replicate 16 0
-
-abbrev pub words_of : Replacement → List ℕ
-words_of r = r.pattern.list ++ r.template.list ++ r.pattern.tree ++ r.pattern.facts ++ r.template.tree ++ r.template.facts
-
-abbrev pub bytes_of : Replacement → List ℕ
-bytes_of r = r.pattern.text ++ r.pattern.code ++ r.template.text ++ r.template.code
-
-abbrev pub in_turn : (Replacement → List ℕ) → List Replacement → List ℕ
-in_turn f [] = []
-in_turn f (r ∷ rs) = f r ++ in_turn f rs
-
 -- a job in no range: replacements, a fact text, a file, parses with their text, and candidates, node and rule
 abbrev pub job_with : List Replacement → List ℕ → File → List ℕ → List ℕ → List ℕ → Job
 job_with rs fact_text file parses parse_text candidates =
-    job_of (in_turn row_of rs) (in_turn words_of rs) (in_turn bytes_of rs) fact_text file parses parse_text candidates anywhere
+    job_of (pairs_with rs) fact_text file parses parse_text candidates anywhere
 
 -- the words of a parse: kind, number of node ranges, and where its text is; of a node range; and of the nodes of a path expression that is
 -- one name
@@ -295,7 +285,7 @@ replacement_I = record {
         ++ token_at 5 34 35;
     facts = fact_of 1 2 1 3 0;
   };
-  template = record {
+  template = Some (record {
     list = tok 1 1 ∷ tok 168 1 ∷ tok 8 1 ∷ tok 1 1 ∷ tok 4 1 ∷ tok 2 1 ∷ tok 8 1 ∷ tok 1 1 ∷ tok 5 1 ∷ [];
     text = 103 ∷ 40 ∷ 36 ∷ 113 ∷ 44 ∷ 32 ∷ 36 ∷ 112 ∷ 41 ∷ [];
     code = 103 ∷ 40 ∷ stand_in 113 ++ 44 ∷ 32 ∷ stand_in 112 ++ 41 ∷ [];
@@ -310,7 +300,7 @@ replacement_I = record {
         ++ name_at 19 34
         ++ token_at 5 34 35;
     facts = fact_of 1 2 2 3 0 ++ fact_of 7 2 1 0 1;
-  };
+  });
 }
 
 abbrev pub job_I : Job
@@ -337,13 +327,13 @@ job_I =
 abbrev pub example_I : Example
 example_I = record {
   question = AJob job_I (replicate 19 0);
-  answer = JobDone (Edits 19)
+  answer = JobDone (Ok (Edits 19))
       (0 ∷ 0 ∷ 0 ∷ 80 ∷ 7 ∷ 0 ∷ 0 ∷ 96 ∷ 7 ∷ 0 ∷ 0 ∷ 112 ∷ 103 ∷ 40 ∷ 98 ∷ 44 ∷ 32 ∷ 97 ∷ 41 ∷ []);
 }
 
 -- 18 bytes give 30
 abbrev pub example_I_30 : Example
-example_I_30 = record { question = AJob job_I (replicate 18 0); answer = JobDone (Refused NoRoom) (replicate 18 0) }
+example_I_30 = record { question = AJob job_I (replicate 18 0); answer = JobDone (Err NoRoom) (replicate 18 0) }
 
 -- K `foo($a) ==>> $a.bar()` on `foo(x + y)`; `foo` resolves to 1 on both sides
 abbrev pub replacement_K : Replacement
@@ -355,7 +345,7 @@ replacement_K = record {
     tree = node_at 64 14 0 20 ++ name_at 0 3 ++ node_at 7 8 3 20 ++ token_at 168 3 4 ++ name_at 4 19 ++ token_at 5 19 20;
     facts = fact_of 1 2 1 3 0;
   };
-  template = record {
+  template = Some (record {
     list = tok 8 1 ∷ tok 1 1 ∷ tok 174 1 ∷ tok 1 3 ∷ tok 168 1 ∷ tok 5 1 ∷ [];
     text = 36 ∷ 97 ∷ 46 ∷ 98 ∷ 97 ∷ 114 ∷ 40 ∷ 41 ∷ [];
     code = stand_in 97 ++ 46 ∷ 98 ∷ 97 ∷ 114 ∷ 40 ∷ 41 ∷ [];
@@ -369,7 +359,7 @@ replacement_K = record {
         ++ token_at 168 19 20
         ++ token_at 5 20 21;
     facts = [];
-  };
+  });
 }
 
 abbrev pub job_K : Job
@@ -398,7 +388,7 @@ job_K =
 abbrev pub example_K : Example
 example_K = record {
   question = AJob job_K (replicate 25 0);
-  answer = JobDone (Edits 25)
+  answer = JobDone (Ok (Edits 25))
       (0 ∷ 0 ∷ 0 ∷ 80 ∷ 10 ∷ 0 ∷ 0 ∷ 96 ∷ 13 ∷ 0 ∷ 0 ∷ 112
       ∷ 40 ∷ 120 ∷ 32 ∷ 43 ∷ 32 ∷ 121 ∷ 41 ∷ 46 ∷ 98 ∷ 97 ∷ 114 ∷ 40 ∷ 41 ∷ []);
 }
@@ -429,13 +419,13 @@ replacement_M = record {
         ++ token_at 5 20 21;
     facts = fact_of 1 2 1 7 0 ++ fact_of 4 2 9 0 0;
   };
-  template = record {
+  template = Some (record {
     list = tok 1 1 ∷ tok 168 1 ∷ tok 8 1 ∷ tok 1 1 ∷ tok 5 1 ∷ [];
     text = 104 ∷ 40 ∷ 36 ∷ 115 ∷ 41 ∷ [];
     code = 104 ∷ 40 ∷ stand_in 115 ++ 41 ∷ [];
     tree = node_at 64 14 0 18 ++ name_at 0 1 ++ node_at 7 8 1 18 ++ token_at 168 1 2 ++ name_at 2 17 ++ token_at 5 17 18;
     facts = fact_of 1 2 2 3 0 ++ fact_of 7 2 1 0 1;
-  };
+  });
 }
 
 abbrev pub replacement_M_old : Replacement
@@ -447,13 +437,13 @@ replacement_M_old = record {
     tree = node_at 64 9 0 5 ++ name_at 0 3 ++ node_at 7 3 3 5 ++ token_at 168 3 4 ++ token_at 5 4 5;
     facts = fact_of 1 2 3 3 0;
   };
-  template = record {
+  template = Some (record {
     list = tok 1 4 ∷ tok 168 1 ∷ tok 5 1 ∷ [];
     text = 110 ∷ 101 ∷ 119 ∷ 50 ∷ 40 ∷ 41 ∷ [];
     code = 110 ∷ 101 ∷ 119 ∷ 50 ∷ 40 ∷ 41 ∷ [];
     tree = node_at 64 9 0 6 ++ name_at 0 4 ++ node_at 7 3 4 6 ++ token_at 168 4 5 ++ token_at 5 5 6;
     facts = fact_of 1 2 4 3 0 ++ fact_of 7 2 1 1 4;
-  };
+  });
 }
 
 abbrev pub job_M : Job
@@ -484,7 +474,7 @@ job_M =
 abbrev pub example_M : Example
 example_M = record {
   question = AJob job_M (replicate 22 0);
-  answer = JobDone (Edits 22)
+  answer = JobDone (Ok (Edits 22))
       (0 ∷ 0 ∷ 0 ∷ 80 ∷ 9 ∷ 0 ∷ 0 ∷ 96 ∷ 10 ∷ 0 ∷ 0 ∷ 112 ∷ 104 ∷ 40 ∷ 38 ∷ 110 ∷ 101 ∷ 119 ∷ 50 ∷ 40 ∷ 41 ∷ 41 ∷ []);
 }
 
@@ -511,18 +501,18 @@ replacement_ranges = record {
     tree = node_at 10 6 0 31 ++ node_at 10 2 0 15 ++ token_at 1 0 15 ++ token_at 2 15 16 ++ node_at 10 2 16 31 ++ token_at 1 16 31;
     facts = [];
   };
-  template = record {
+  template = Some (record {
     list = tok 8 1 ∷ tok 1 1 ∷ tok 173 1 ∷ tok 8 1 ∷ tok 1 1 ∷ [];
     text = 36 ∷ 98 ∷ 45 ∷ 36 ∷ 97 ∷ [];
     code = stand_in 98 ++ 45 ∷ stand_in 97;
     tree = node_at 10 4 0 31 ++ token_at 1 0 15 ++ token_at 173 15 16 ++ token_at 1 16 31;
     facts = [];
-  };
+  });
 }
 
 abbrev pub job_ranges : Job
 job_ranges =
-    job_with (replacement_ranges ∷ record { pattern = placeholder_of 10 99; template = digit 10 49 } ∷ []) []
+    job_with (replacement_ranges ∷ record { pattern = placeholder_of 10 99; template = Some (digit 10 49) } ∷ []) []
     (file_of (node_at 10 3 0 0 ++ node_at 10 1 0 0 ++ node_at 10 1 0 0) [] (fact_of 6 0 1 0 0 ++ fact_of 6 2 1 0 0))
     [] []
     (0 ∷ 0 ∷ 2 ∷ 1 ∷ [])
@@ -531,28 +521,28 @@ job_ranges =
 abbrev pub example_ranges : Example
 example_ranges = record {
   question = AJob job_ranges (replicate 14 0);
-  answer = JobDone (Edits 14) (0 ∷ 0 ∷ 0 ∷ 80 ∷ 0 ∷ 0 ∷ 0 ∷ 96 ∷ 2 ∷ 0 ∷ 0 ∷ 112 ∷ 45 ∷ 49 ∷ []);
+  answer = JobDone (Ok (Edits 14)) (0 ∷ 0 ∷ 0 ∷ 80 ∷ 0 ∷ 0 ∷ 0 ∷ 96 ∷ 2 ∷ 0 ∷ 0 ∷ 112 ∷ 45 ∷ 49 ∷ []);
 }
 
 -- Three rules on one node: `$a ==>> $a!`, `1 ==>> 2` and `1 ==>> 3` on `1`, the last handed in first.
 abbrev pub replacement_rules : Replacement
 replacement_rules = record {
   pattern = placeholder_of 10 97;
-  template = record {
+  template = Some (record {
     list = tok 8 1 ∷ tok 1 1 ∷ tok 161 1 ∷ [];
     text = 36 ∷ 97 ∷ 33 ∷ [];
     code = stand_in 97 ++ 33 ∷ [];
     tree = node_at 10 3 0 16 ++ token_at 1 0 15 ++ token_at 161 15 16;
     facts = [];
-  };
+  });
 }
 
 abbrev pub job_rules : Job
 job_rules =
     job_with
     (replacement_rules
-    ∷ record { pattern = digit 10 49; template = digit 10 50 }
-    ∷ record { pattern = digit 10 49; template = digit 10 51 }
+    ∷ record { pattern = digit 10 49; template = Some (digit 10 50) }
+    ∷ record { pattern = digit 10 49; template = Some (digit 10 51) }
     ∷ [])
     []
     (file_of (node_at 10 2 0 1 ++ token_at 12 0 1) (49 ∷ []) (fact_of 6 0 1 0 0))
@@ -563,7 +553,7 @@ job_rules =
 abbrev pub example_rules : Example
 example_rules = record {
   question = AJob job_rules (replicate 14 0);
-  answer = JobDone (Edits 14) (0 ∷ 0 ∷ 0 ∷ 80 ∷ 1 ∷ 0 ∷ 0 ∷ 96 ∷ 2 ∷ 0 ∷ 0 ∷ 112 ∷ 50 ∷ 33 ∷ []);
+  answer = JobDone (Ok (Edits 14)) (0 ∷ 0 ∷ 0 ∷ 80 ∷ 1 ∷ 0 ∷ 0 ∷ 96 ∷ 2 ∷ 0 ∷ 0 ∷ 112 ∷ 50 ∷ 33 ∷ []);
 }
 
 -- Nested before outer: `-$a ==>> !$a` and `1 ==>> 2` on `-1`, with some parses.
@@ -576,31 +566,31 @@ replacement_nested = record {
     tree = node_at 70 4 0 16 ++ token_at 173 0 1 ++ node_at 67 2 1 16 ++ token_at 1 1 16;
     facts = [];
   };
-  template = record {
+  template = Some (record {
     list = tok 161 1 ∷ tok 8 1 ∷ tok 1 1 ∷ [];
     text = 33 ∷ 36 ∷ 97 ∷ [];
     code = 33 ∷ stand_in 97;
     tree = node_at 70 4 0 16 ++ token_at 161 0 1 ++ node_at 67 2 1 16 ++ token_at 1 1 16;
     facts = [];
-  };
+  });
 }
 
 abbrev pub job_nested : List ℕ → List ℕ → Job
 job_nested parses parse_text =
-    job_with (replacement_nested ∷ record { pattern = digit 66 49; template = digit 66 50 } ∷ []) []
+    job_with (replacement_nested ∷ record { pattern = digit 66 49; template = Some (digit 66 50) } ∷ []) []
     (file_of (node_at 70 4 0 2 ++ token_at 173 0 1 ++ node_at 66 2 1 2 ++ token_at 12 1 2) (45 ∷ 49 ∷ []) (fact_of 6 0 1 0 0 ++ fact_of 6 2 1 0 0))
     parses parse_text
     (0 ∷ 0 ∷ 2 ∷ 1 ∷ [])
 
 -- without a parse the nested text is asked for, `2`, though the outer text begins before it
 abbrev pub example_nested : Example
-example_nested = record { question = AJob (job_nested [] []) (replicate 14 0); answer = JobDone (Asked 66 1) (50 ∷ replicate 13 0) }
+example_nested = record { question = AJob (job_nested [] []) (replicate 14 0); answer = JobDone (Ok (Asked 66 1)) (50 ∷ replicate 13 0) }
 
 -- with the parse of that, the outer text with the nested one in it: `!2`
 abbrev pub example_outer : Example
 example_outer = record {
   question = AJob (job_nested (parse_of 66 1 0 1 ++ range_at 0 1) (50 ∷ [])) (replicate 14 0);
-  answer = JobDone (Asked 70 2) (33 ∷ 50 ∷ replicate 12 0);
+  answer = JobDone (Ok (Asked 70 2)) (33 ∷ 50 ∷ replicate 12 0);
 }
 
 abbrev pub examples : List Example

@@ -1,15 +1,17 @@
-// What crosses the C ABI as numbers: each answer enum or struct turned into a struct of numbers, and a range as it is handed over.
+// What crosses the C ABI as numbers: each answer turned into a struct of numbers, and a range as it is handed over.
 #![tactic(auto)]
 
 pub mod ranges; // ranges.rt: a range as it is handed over
 pub mod rule_answers; // rule_answers.rt: the answers of the operations on rules
 pub mod match_answers; // match_answers.rt: the answer of the operation that matches
 
-ghost use Rattle.std.specs.Prelude.{◌≡◌, map};
-ghost use Rattle.exports.specs.Lists.{name_of, tokens_of, code_written};
+ghost use Rattle.std.specs.Prelude.{◌≡◌, map, length};
+ghost use Rattle.parsing.specs.Patterns.{var_of, all_nots};
+ghost use Rattle.parsing.specs.Vars.{vars_of, placeholders_read};
+ghost use Rattle.exports.specs.Lists.{padded_to, no_name, name_of, tokens_of, code_written};
 
-use parsing::patterns::{ParsedPattern, Placeholder};
-use rust_code::Written;
+use errors::Refusal;
+use parsing::patterns::{Pattern, Placeholder};
 
 // A placeholder: the bytes of its name in the list's text, and how many constraints it has.
 #[repr(C)]
@@ -31,43 +33,74 @@ pub struct ReadTokens {
     pub nots: [u8; 50],
 }
 
-// The names of eight placeholders.
-fn names_of(places: [Placeholder; 8]) -> [NamedPlaceholder; 8]
-    ensures { result ≡ map name_of places }
+const NO_NAME: NamedPlaceholder = NamedPlaceholder {
+    start: 0,
+    end: 0,
+    constraints: 0,
+};
+
+// A placeholder's name.
+impl From<&Placeholder> for NamedPlaceholder {
+    ghost from_gives = { λ placeholder numbers. numbers ≡ name_of (var_of placeholder.now) };
+
+    fn from(placeholder: &Placeholder) -> NamedPlaceholder {
+        NamedPlaceholder {
+            start: placeholder.name.start,
+            end: placeholder.name.end,
+            constraints: placeholder.nots.len(),
+        }
+    }
+}
+
+// The names of a pattern's placeholders.
+fn names_of(pattern: &Pattern) -> [NamedPlaceholder; 8]
+    ensures { result ≡ padded_to 8 no_name (map name_of (vars_of pattern.now)) }
 {
-    let none = NamedPlaceholder {
-        start: 0,
-        end: 0,
-        constraints: 0,
-    };
-    let mut names = [none; 8];
-    let mut i: usize = 0;
-    while i < 8 {
-        let p = places[i];
-        names[i] = NamedPlaceholder {
-            start: p.name.start,
-            end: p.name.end,
-            constraints: p.constraints,
-        };
-        i += 1;
+    let mut names = [NO_NAME; 8];
+    for (i, placeholder) in pattern.placeholders.as_slice().iter().enumerate() {
+        names[i] = NamedPlaceholder::from(placeholder);
     }
     names
 }
 
-// Reading tokens.
-pub fn tokens_read(parsed: ParsedPattern) -> ReadTokens
-    ensures { result ≡ tokens_of parsed }
+// Its constraints in turn, and how many they are.
+fn constraints_of(pattern: &Pattern) -> ([u8; 50], usize)
+    ensures { result ≡ (padded_to 50 0 (all_nots (vars_of pattern.now)), length (all_nots (vars_of pattern.now))) }
 {
-    let outcome = parsed.outcome;
-    let pattern = parsed.pattern;
-    let places = pattern.placeholders;
-    let nots = pattern.nots;
-    ReadTokens {
-        refusal: errors::outcome_number(outcome),
-        count: pattern.count,
-        placeholders: names_of(places),
-        constraints: pattern.constraints,
-        nots,
+    let mut nots = [0; 50];
+    let mut count = 0;
+    for placeholder in pattern.placeholders.as_slice() {
+        let end = count + placeholder.nots.len();
+        nots[count..end].copy_from_slice(placeholder.nots.as_slice());
+        count = end;
+    }
+    (nots, count)
+}
+
+// Reading tokens.
+impl From<Result<Pattern, Refusal>> for ReadTokens {
+    ghost from_gives = { λ answer numbers. numbers ≡ tokens_of (placeholders_read answer) };
+
+    fn from(answer: Result<Pattern, Refusal>) -> ReadTokens {
+        match answer {
+            Err(refused) => ReadTokens {
+                refusal: u32::from(refused),
+                count: 0,
+                placeholders: [NO_NAME; 8],
+                constraints: 0,
+                nots: [0; 50],
+            },
+            Ok(pattern) => {
+                let (nots, constraints) = constraints_of(&pattern);
+                ReadTokens {
+                    refusal: 0,
+                    count: pattern.placeholders.len(),
+                    placeholders: names_of(&pattern),
+                    constraints,
+                    nots,
+                }
+            }
+        }
     }
 }
 
@@ -80,17 +113,16 @@ pub struct RawCode {
 }
 
 // Writing raw code.
-pub fn code_written(written: Written) -> RawCode
-    ensures { result ≡ code_written written }
-{
-    match written {
-        Written::Length(n) => RawCode {
-            refusal: 0,
-            length: n,
-        },
-        Written::Refused(r) => RawCode {
-            refusal: u32::from(r),
-            length: 0,
-        },
+impl From<Result<usize, Refusal>> for RawCode {
+    ghost from_gives = { λ written numbers. numbers ≡ code_written written };
+
+    fn from(written: Result<usize, Refusal>) -> RawCode {
+        match written {
+            Ok(length) => RawCode { refusal: 0, length },
+            Err(refused) => RawCode {
+                refusal: u32::from(refused),
+                length: 0,
+            },
+        }
     }
 }

@@ -1,9 +1,10 @@
 // The answer of the operation that matches.
-ghost use Rattle.std.specs.Prelude.{◌≡◌, map};
-ghost use Rattle.exports.specs.Matches.{bound_numbers, case_numbers, node_matched};
+ghost use Rattle.std.specs.Prelude.{◌≡◌};
+ghost use Rattle.exports.specs.Matches.{bound_numbers, nothing_matched, node_matched};
 
-use answers::{Case, NodeMatch};
+use answers::NodeMatch;
 use captures::Binding;
+use errors::Refusal;
 
 // A placeholder's binding: whether it is bound, its bytes in the file, and what a receiver has.
 #[repr(C)]
@@ -26,90 +27,61 @@ pub struct MatchedNode {
     pub bindings: [BoundPlaceholder; 8],
 }
 
+const UNBOUND: BoundPlaceholder = BoundPlaceholder {
+    bound: 0,
+    start: 0,
+    end: 0,
+    stars: 0,
+    self_kind: 0,
+};
+
 // One binding.
-fn bound_numbers(b: Binding) -> BoundPlaceholder
-    ensures { result ≡ bound_numbers b }
-{
-    if b.bound {
-        return BoundPlaceholder {
-            bound: 1,
-            start: b.start,
-            end: b.end,
-            stars: b.stars,
-            self_kind: b.self_kind,
-        };
-    }
-    BoundPlaceholder {
-        bound: 0,
-        start: b.start,
-        end: b.end,
-        stars: b.stars,
-        self_kind: b.self_kind,
+impl From<Option<Binding>> for BoundPlaceholder {
+    ghost from_gives = { λ binding numbers. numbers ≡ bound_numbers binding };
+
+    fn from(binding: Option<Binding>) -> BoundPlaceholder {
+        match binding {
+            None => UNBOUND,
+            Some(bound) => BoundPlaceholder {
+                bound: 1,
+                start: bound.start,
+                end: bound.end,
+                stars: bound.stars,
+                self_kind: u32::from(bound.self_kind),
+            },
+        }
     }
 }
 
-// Eight bindings.
-fn bindings_of(bindings: [Binding; 8]) -> [BoundPlaceholder; 8]
-    ensures { result ≡ map bound_numbers bindings }
+// The answer where there is no match, or a refusal.
+fn no_match(refusal: u32) -> MatchedNode
+    ensures { result ≡ nothing_matched refusal }
 {
-    let none = BoundPlaceholder {
-        bound: 0,
-        start: 0,
-        end: 0,
-        stars: 0,
-        self_kind: 0,
-    };
-    let mut numbers = [none; 8];
-    let mut i: usize = 0;
-    while i < 8 {
-        let b = bindings[i];
-        numbers[i] = bound_numbers(b);
-        i += 1;
-    }
-    numbers
-}
-
-// What came of it: 01's number, whether there is a match, and how many bytes its comments have.
-#[derive(Clone, Copy)]
-struct CaseNumbers {
-    refusal: u32,
-    matched: u32,
-    length: usize,
-}
-
-fn case_numbers(case: Case) -> CaseNumbers
-    ensures { result ≡ case_numbers case }
-{
-    match case {
-        Case::Refused(r) => CaseNumbers {
-            refusal: u32::from(r),
-            matched: 0,
-            length: 0,
-        },
-        Case::NoMatch => CaseNumbers {
-            refusal: 0,
-            matched: 0,
-            length: 0,
-        },
-        Case::Matched(n) => CaseNumbers {
-            refusal: 0,
-            matched: 1,
-            length: n,
-        },
+    MatchedNode {
+        refusal,
+        matched: 0,
+        length: 0,
+        bindings: [UNBOUND; 8],
     }
 }
 
 // Matching one node.
-pub fn node_matched(m: NodeMatch) -> MatchedNode
-    ensures { result ≡ node_matched m }
-{
-    let case = m.case;
-    let bindings = m.bindings;
-    let n = case_numbers(case);
-    MatchedNode {
-        refusal: n.refusal,
-        matched: n.matched,
-        length: n.length,
-        bindings: bindings_of(bindings),
+impl From<Result<Option<NodeMatch>, Refusal>> for MatchedNode {
+    ghost from_gives = { λ answer numbers. numbers ≡ node_matched answer };
+
+    fn from(answer: Result<Option<NodeMatch>, Refusal>) -> MatchedNode {
+        match answer {
+            Err(refused) => no_match(u32::from(refused)),
+            Ok(None) => no_match(0),
+            Ok(Some(found)) => {
+                let bindings = found.bindings;
+                MatchedNode {
+                    refusal: 0,
+                    matched: 1,
+                    length: found.comments_length,
+                    bindings: bindings.map(BoundPlaceholder::from),
+                }
+            }
+        }
     }
 }

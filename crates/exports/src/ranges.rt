@@ -2,15 +2,11 @@
 ghost use Rattle.std.specs.Prelude.{◌≡◌};
 ghost use Rattle.exports.specs.Matches.{restriction};
 
-use checks::Restriction;
+use words::texts::Range;
 
 // It is given unless the flag is 0.
-pub fn restriction_of(given: u32, start: usize, end: usize) -> Restriction
+pub fn restriction_of(given: u32, start: usize, end: usize) -> Option<Range>
     ensures { result ≡ restriction given start end }
 {
-    Restriction {
-        given: given != 0,
-        start,
-        end,
-    }
+    (given != 0).then_some(Range { start, end })
 }

@@ -1,13 +1,11 @@
 // The answers of the operations on rules.
-ghost use Rattle.std.specs.Prelude.{◌≡◌, cond};
-ghost use Rattle.rules.specs.declared.building.Built.TheVariants.{Rules};
-ghost use Rattle.exports.specs.Rules.{template_number, rules_built, path_numbers, call_numbers, nothing_resolved, element_resolved};
+ghost use Rattle.std.specs.Prelude.{◌≡◌};
+ghost use Rattle.exports.specs.Rules.{rules_built, element_numbers, nothing_resolved, element_resolved};
 
-use facts::{CallAt, PathAt};
-use resolving::asking::Resolved;
+use errors::Refusal;
+use resolving::Element;
 use rules::building::Built;
-use rules::forms::TemplateTree;
-use rules::numbering::Found;
+use rules::numbering::Rule;
 
 // The answer of building rules: 01's number, how many rules are left, and the rule that was asked for, if it is found.
 #[repr(C)]
@@ -21,59 +19,48 @@ pub struct BuiltRules {
     pub template: u32,
 }
 
-// The number of a rule's template tree. A rule has none that is missing.
-fn template_number(template: TemplateTree) -> u32
-    ensures { result ≡ template_number template }
-{
-    match template {
-        TemplateTree::Absent => 0,
-        TemplateTree::Own => 1,
-        TemplateTree::StandIn => 2,
-        TemplateTree::Missing => 3,
-    }
-}
-
-// The answer where nothing is refused.
-fn answer_found(rules: usize, found: Found) -> BuiltRules
-    ensures { result ≡ rules_built (Rules rules found) }
-{
-    match found {
-        Found::NoSuchRule => BuiltRules {
-            refusal: 0,
-            rules,
-            found: 0,
-            pair: 0,
-            form: 0,
-            template: 0,
-        },
-        Found::At(rule) => {
-            let template = rule.template;
-            BuiltRules {
-                refusal: 0,
-                rules,
-                found: 1,
-                pair: rule.pair,
-                form: rule.form,
-                template: template_number(template),
-            }
-        }
-    }
-}
-
 // Building rules.
-pub fn rules_built(built: Built) -> BuiltRules
-    ensures { result ≡ rules_built built }
-{
-    match built {
-        Built::Refused(r) => BuiltRules {
-            refusal: u32::from(r),
+impl From<Result<Built, Refusal>> for BuiltRules {
+    ghost from_gives = { λ answer numbers. numbers ≡ rules_built answer };
+
+    fn from(answer: Result<Built, Refusal>) -> BuiltRules {
+        let none = BuiltRules {
+            refusal: 0,
             rules: 0,
             found: 0,
             pair: 0,
             form: 0,
             template: 0,
-        },
-        Built::Rules(rules, found) => answer_found(rules, found),
+        };
+        match answer {
+            Err(refused) => BuiltRules {
+                refusal: u32::from(refused),
+                ..none
+            },
+            Ok(Built { count, rule: None }) => BuiltRules {
+                rules: count,
+                ..none
+            },
+            Ok(
+                Built {
+                    count,
+                    rule: Some(
+                        Rule {
+                            pair,
+                            form,
+                            template,
+                        },
+                    ),
+                },
+            ) => BuiltRules {
+                refusal: 0,
+                rules: count,
+                found: 1,
+                pair,
+                form: form as usize,
+                template: template as u32,
+            },
+        }
     }
 }
 
@@ -90,62 +77,6 @@ pub struct ResolvedElement {
     pub typed: u32,
     pub qualifier_type: u32,
     pub contains_self: u32,
-}
-
-// Whether a path is resolved, and what it resolves to.
-#[derive(Clone, Copy)]
-struct PathNumbers {
-    resolved: u32,
-    resolution: u32,
-}
-
-fn path_numbers(path: PathAt) -> PathNumbers
-    ensures { result ≡ path_numbers path }
-{
-    match path {
-        PathAt::NotResolved => PathNumbers {
-            resolved: 0,
-            resolution: 0,
-        },
-        PathAt::ResolvedTo(resolution) => PathNumbers {
-            resolved: 1,
-            resolution,
-        },
-    }
-}
-
-// Whether an element is a call, its function, whether that has a qualifier type, and the type.
-#[derive(Clone, Copy)]
-struct CallNumbers {
-    call: u32,
-    function: u32,
-    typed: u32,
-    qualifier_type: u32,
-}
-
-fn call_numbers(call: CallAt) -> CallNumbers
-    ensures { result ≡ call_numbers call }
-{
-    match call {
-        CallAt::NoCall => CallNumbers {
-            call: 0,
-            function: 0,
-            typed: 0,
-            qualifier_type: 0,
-        },
-        CallAt::Call(function) => CallNumbers {
-            call: 1,
-            function,
-            typed: 0,
-            qualifier_type: 0,
-        },
-        CallAt::TypedCall(function, qualifier_type) => CallNumbers {
-            call: 1,
-            function,
-            typed: 1,
-            qualifier_type,
-        },
-    }
 }
 
 // The answer where no element is found, or the rules are refused.
@@ -165,39 +96,35 @@ fn no_element(refusal: u32) -> ResolvedElement
     }
 }
 
-// The number of a flag.
-fn flag(set: bool) -> u32
-    ensures { result ≡ cond set 1 0 }
-{
-    if set {
-        return 1;
+// An element that is found.
+impl From<Element> for ResolvedElement {
+    ghost from_gives = { λ element numbers. numbers ≡ element_numbers element };
+
+    fn from(element: Element) -> ResolvedElement {
+        let qualifier = element.call.and_then(|call| call.qualifier);
+        ResolvedElement {
+            refusal: 0,
+            found: 1,
+            resolved: u32::from(element.path.is_some()),
+            resolution: element.path.unwrap_or(0),
+            call: u32::from(element.call.is_some()),
+            function: element.call.map_or(0, |call| call.function),
+            typed: u32::from(qualifier.is_some()),
+            qualifier_type: qualifier.unwrap_or(0),
+            contains_self: u32::from(element.contains_self),
+        }
     }
-    0
 }
 
 // Resolving.
-pub fn element_resolved(resolved: Resolved) -> ResolvedElement
-    ensures { result ≡ element_resolved resolved }
-{
-    match resolved {
-        Resolved::Refused(r) => no_element(u32::from(r)),
-        Resolved::NoSuchElement => no_element(0),
-        Resolved::At(found) => {
-            let path = found.path;
-            let call = found.call;
-            let p = path_numbers(path);
-            let c = call_numbers(call);
-            ResolvedElement {
-                refusal: 0,
-                found: 1,
-                resolved: p.resolved,
-                resolution: p.resolution,
-                call: c.call,
-                function: c.function,
-                typed: c.typed,
-                qualifier_type: c.qualifier_type,
-                contains_self: flag(found.contains_self),
-            }
+impl From<Result<Option<Element>, Refusal>> for ResolvedElement {
+    ghost from_gives = { λ answer numbers. numbers ≡ element_resolved answer };
+
+    fn from(answer: Result<Option<Element>, Refusal>) -> ResolvedElement {
+        match answer {
+            Err(refused) => no_element(u32::from(refused)),
+            Ok(None) => no_element(0),
+            Ok(Some(element)) => element.into(),
         }
     }
 }

@@ -1,14 +1,11 @@
 -- Which words are facts of a tree, from the front.
 -- Assumes nothing.
-use mathlib.Core.Path.{◌≡◌, refl, sym, ◌∙◌}
+use mathlib.Core.Path.{◌≡◌, refl, sym, ap}
 use mathlib.Core.Bool.{Bool, true, false, ◌&&◌, and-false}
-use mathlib.Core.List.{List, [], ◌∷◌}
-use Prim.Native.Nat.{ℕ, ◌<◌, ◌≤◌}
+use mathlib.Core.List.{List, [], ◌∷◌, ◌++◌}
+use Prim.Native.Nat.{ℕ, ◌%◌}
 use native.Mathlib.Omega.{arith}
-use lib.Dec.{eqb}
-use borrow.Author.Tests.{ne_eqb}
-use lib.ListN.{length, drop, get_or-eq_default}
-use Rattle.words.specs.Fields.{kind_at}
+use lib.ListN.{length, length-append}
 use Rattle.syntax.specs.Trees.{Elems}
 use Rattle.facts.specs.declared.Owner.{Owner}
 use Rattle.facts.specs.Facts.{fact_at, facts_of, is_fact_part, are_fact_words, is_fact, are_facts}
@@ -19,30 +16,39 @@ and_cross true true c d = refl
 and_cross true false c d = sym (and-false c)
 and_cross false b c d = refl
 
--- fewer words than four are no fact
-part_short : (l : List ℕ) → length l ≤ 3 → is_fact_part l ≡ false
-part_short l h = rw (get_or-eq_default l 0 h) (and-false (eqb (kind_at l 0) 9 && eqb (kind_at l 1) 10 && eqb (kind_at l 2) 10))
+-- words that are no whole facts
+pub words_uneven : (l : List ℕ) → (length l % 4 ≡ 0 → ⊥) → are_fact_words l ≡ false
+unfolding are_fact_words
+words_uneven [] n = absurd (n refl)
+words_uneven (a ∷ []) n = refl
+words_uneven (a ∷ (b ∷ [])) n = refl
+words_uneven (a ∷ (b ∷ (c ∷ []))) n = refl
+words_uneven (a ∷ (b ∷ (c ∷ (d ∷ l)))) n =
+    rw (words_uneven l (λ e. n (omega arith)), and-false (is_fact_part (a ∷ b ∷ c ∷ d ∷ l)))
 
 module _ (owner : Owner) (tree : Elems) (n : ℕ) where
-  all-step : (l : List ℕ) → 0 < length l → all_facts owner tree n l ≡ (is_fact_part l && is_fact owner tree n (fact_at l) && all_facts owner tree n (drop 4 l))
+  -- the first chunk is the first fact
+  part_first : (x r : List ℕ) → length x ≡ 4 → all_facts owner tree n (x ++ r) ≡ (is_fact_part x && is_fact owner tree n (fact_at x) && all_facts owner tree n r)
   unfolding are_fact_words facts_of are_facts
-  all-step [] h = absurd (omega arith)
-  all-step (a ∷ []) h = rw (part_short (a ∷ []) (omega arith))
-  all-step (a ∷ (b ∷ [])) h = rw (part_short (a ∷ b ∷ []) (omega arith))
-  all-step (a ∷ (b ∷ (c ∷ []))) h = rw (part_short (a ∷ b ∷ c ∷ []) (omega arith))
-  all-step (a ∷ (b ∷ (c ∷ (d ∷ l)))) h = and_cross (is_fact_part (a ∷ b ∷ c ∷ d ∷ l)) (are_fact_words l) (is_fact owner tree n (fact_at (a ∷ b ∷ c ∷ d ∷ l))) (are_facts owner tree n (facts_of l))
+  part_first [] r e = absurd (omega arith)
+  part_first (a ∷ []) r e = absurd (omega arith)
+  part_first (a ∷ (b ∷ [])) r e = absurd (omega arith)
+  part_first (a ∷ (b ∷ (c ∷ []))) r e = absurd (omega arith)
+  part_first (a ∷ (b ∷ (c ∷ (d ∷ [])))) r e = and_cross (is_fact_part (a ∷ b ∷ c ∷ d ∷ [])) (are_fact_words r) (is_fact owner tree n (fact_at (a ∷ b ∷ c ∷ d ∷ []))) (are_facts owner tree n (facts_of r))
+  part_first (a ∷ (b ∷ (c ∷ (d ∷ (f ∷ x))))) r e = absurd (omega arith)
 
-  pub all_more : (l : List ℕ) → 0 < length l → (is_fact_part l && is_fact owner tree n (fact_at l)) ≡ true → all_facts owner tree n l ≡ all_facts owner tree n (drop 4 l)
-  all_more l h t = all-step l h ∙ rw t
+  module _ (l x r : List ℕ) (e : l ≡ x ++ r) (m : length x ≡ 4) where
+    pub all_more : (is_fact_part x && is_fact owner tree n (fact_at x)) ≡ true → all_facts owner tree n l ≡ all_facts owner tree n r
+    all_more p = rw (e, part_first x r m, p)
 
-  pub all-stop : (l : List ℕ) → 0 < length l → (is_fact_part l && is_fact owner tree n (fact_at l)) ≡ false → all_facts owner tree n l ≡ false
-  all-stop l h t = all-step l h ∙ rw t
+    pub all_stop : (is_fact_part x && is_fact owner tree n (fact_at x)) ≡ false → all_facts owner tree n l ≡ false
+    all_stop p = rw (e, part_first x r m, p)
 
-  -- fewer words than four are facts where there are none
-  pub all-last : (l : List ℕ) → length l < 4 → eqb (length l) 0 ≡ all_facts owner tree n l
+    -- what is left are whole facts, where all are
+    pub even_more : length l % 4 ≡ 0 → length r % 4 ≡ 0
+    even_more z = omega (arith, ap length e, length-append x r)
+
+  pub all_end : (l : List ℕ) → length l ≡ 0 → all_facts owner tree n l ≡ true
   unfolding are_fact_words facts_of are_facts
-  all-last [] h = refl
-  all-last (a ∷ []) h = ne_eqb (length (a ∷ [])) 0 (λ e. omega arith)
-  all-last (a ∷ (b ∷ [])) h = ne_eqb (length (a ∷ b ∷ [])) 0 (λ e. omega arith)
-  all-last (a ∷ (b ∷ (c ∷ []))) h = ne_eqb (length (a ∷ b ∷ c ∷ [])) 0 (λ e. omega arith)
-  all-last (a ∷ (b ∷ (c ∷ (d ∷ l)))) h = absurd (omega arith)
+  all_end [] h = refl
+  all_end (a ∷ l) h = absurd (omega arith)

@@ -1,6 +1,6 @@
 -- A whole list of facts: too many, one that is no fact of the tree, or as steady as its index.
 -- Assumes nothing.
-use mathlib.Core.Path.{◌≡◌, refl, sym, ◌∙◌}
+use mathlib.Core.Path.{◌≡◌, refl, ◌∙◌}
 use mathlib.Core.Bool.{Bool, true, false, not, ◌&&◌, and-false, and_assoc, true≢false}
 use mathlib.Core.List.{List}
 use Prim.Native.Nat.{ℕ, ◌/◌, ◌<◌, ◌≤◌}
@@ -9,13 +9,9 @@ use lib.Dec.{leb}
 use lib.ListN.{length}
 use borrow.Author.Tests.{le-leb, lt-leb}
 use Rattle.syntax.specs.Trees.{tree}
-use Rattle.syntax.specs.Checks.{WellFormed}
 use Rattle.facts.specs.declared.Owner.{Owner}
 use Rattle.facts.specs.Facts.{facts_of, are_fact_words, are_facts, has_repeated, has_gap, is_fact_list}
-use Rattle.facts.specs.Keys.{is_steady, index_of}
-use Rattle.facts.proofs.FactLaws.{all_facts, length_facts, ranged}
-use Rattle.facts.proofs.IndexLaws.{steady_exactly}
-use Rattle.facts.proofs.ListLaws.{list_low}
+use Rattle.facts.proofs.FactLaws.{all_facts, length_facts}
 
 drop_middle : (a b c d e : Bool) → b ≡ true → (a && b && c && d && e) ≡ (a && c && (d && e))
 drop_middle true b c d e h = rw h (and_assoc c d e)
@@ -37,10 +33,11 @@ module _ (owner : Owner) (words : List ℕ) (n : ℕ) (l : List ℕ) where
   unfolding is_fact_list
   list_other t = drop-first (are_fact_words l) (leb (length (facts_of l)) 16383) (are_facts owner (tree words) n (facts_of l)) (not (has_repeated (facts_of l))) (not (has_gap (facts_of l) (facts_of l))) t
 
-  -- facts of the tree are well-formed exactly if their index is steady
-  pub list_steady : WellFormed words → length l / 4 ≤ 16383 → all_facts owner (tree words) n l ≡ true → is_fact_list owner (tree words) n l ≡ is_steady 0 (index_of l)
-  unfolding is_fact_list index_of
-  list_steady formed few t =
+  -- facts of the tree are well-formed exactly if none is repeated and no step is left out
+  pub list_whole : length l / 4 ≤ 16383 → all_facts owner (tree words) n l ≡ true
+      → is_fact_list owner (tree words) n l ≡ (not (has_repeated (facts_of l)) && not (has_gap (facts_of l) (facts_of l)))
+  unfolding is_fact_list
+  list_whole few t =
       let k : length (facts_of l) ≤ 16383 = omega (arith, length_facts l) in
       drop_middle (are_fact_words l) (leb (length (facts_of l)) 16383) (are_facts owner (tree words) n (facts_of l)) (not (has_repeated (facts_of l))) (not (has_gap (facts_of l) (facts_of l))) (le-leb _ _ k)
-      ∙ rw t (sym (steady_exactly (facts_of l) (ranged l (list_low owner words n l formed few t)) k))
+      ∙ rw t

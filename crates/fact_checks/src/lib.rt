@@ -1,200 +1,170 @@
 // Whether words are the well-formed facts of a tree (21): each fact by its words, its sort, its element and its values, and then the list.
 #![tactic(auto)]
 
-ghost use Rattle.std.specs.Prelude.{◌≡◌, true, ◌&&◌, ◌<◌, ◌≤◌, ◌/◌, length};
-ghost use Rattle.syntax.specs.Trees.{tree};
-ghost use Rattle.syntax.specs.Checks.{WellFormed};
-ghost use Rattle.facts.specs.Facts.{fact_at, is_fact_part, facts_of, are_fact_words, allows, low_kind, high_kind, names_token, has_values, is_fact, are_facts, is_fact_list};
-ghost use Rattle.facts.specs.Keys.{Indexed};
+ghost use Rattle.std.specs.Prelude.{◌≡◌, true, false, cond, ◌&&◌, ◌≤◌, ◌/◌, length, IfOk, IfErr};
+ghost use Rattle.errors.specs.Refusals.{ok, err};
+ghost use Rattle.errors.specs.declared.Refusal.TheVariants.{MalformedFacts};
+ghost use Rattle.syntax.specs.Views.{tree_of};
+ghost use Rattle.facts.specs.Facts.{sort_number, fact_at, is_fact_part, facts_of, are_fact_words, allows, low_kind, high_kind, names_token, has_values, is_fact, are_facts, is_fact_list};
 
-use facts::{Owner, index};
-use syntax::accessors;
+use errors::Refusal;
+use facts::{Fact, Facts, Owner, Sort};
+use syntax::kinds::{EXPRESSIONS, Kinds, METHOD_CALL_EXPR, NODES, PATH, RECORD_EXPR_FIELD};
+use syntax::trees::Tree;
 use words::fields;
 
+// The most facts that a list may have.
+const MAX_FACTS: usize = 16383;
+
 // Whether the words of a fact have their kinds.
-fn is_fact_part(c: &[u32]) -> bool
-    ensures { result ≡ is_fact_part c.now }
+fn is_fact_part(part: &[u32]) -> bool
+    ensures { result ≡ is_fact_part part.now }
 {
-    (fields::kind(c, 0) == 9)
-        & (fields::kind(c, 1) == 10)
-        & (fields::kind(c, 2) == 10)
-        & (fields::kind(c, 3) == 10)
+    fields::kind(part, 0) == 9
+        && fields::kind(part, 1) == 10
+        && fields::kind(part, 2) == 10
+        && fields::kind(part, 3) == 10
 }
 
 // Whether a sort stands on an owner's trees.
-fn is_allowed(owner: Owner, sort: u32) -> bool
-    ensures { result ≡ allows owner sort }
+fn is_allowed(owner: Owner, sort: Sort) -> bool
+    ensures { result ≡ allows owner (sort_number sort) }
 {
     match owner {
-        Owner::File => (sort == 0) | (sort == 2) | (sort == 3) | (sort == 5) | (sort == 6),
-        Owner::Pattern => (sort == 1) | (sort == 4),
-        Owner::Template => (sort == 1) | (sort == 7),
+        Owner::File => matches!(
+            sort,
+            Sort::CodePath | Sort::MethodCall | Sort::Expression | Sort::RecordField | Sort::Node
+        ),
+        Owner::Pattern => matches!(sort, Sort::RulePath | Sort::PatternPath),
+        Owner::Template => matches!(sort, Sort::RulePath | Sort::TemplatePath),
     }
 }
 
-// The lowest kind of node that a sort stands at.
-fn low_kind(sort: u32) -> u32
-    ensures { result ≡ low_kind sort }
+// The kinds of node that a sort stands at.
+fn kinds_of(sort: Sort) -> Kinds
+    ensures low { result.low ≡ low_kind (sort_number sort) }
+    ensures high { result.high ≡ high_kind (sort_number sort) }
 {
-    if sort == 2 {
-        return 65;
+    match sort {
+        Sort::MethodCall => Kinds::one(METHOD_CALL_EXPR),
+        Sort::Expression => EXPRESSIONS,
+        Sort::RecordField => Kinds::one(RECORD_EXPR_FIELD),
+        Sort::Node => NODES,
+        Sort::CodePath | Sort::RulePath | Sort::PatternPath | Sort::TemplatePath => {
+            Kinds::one(PATH)
+        }
     }
-    if sort == 3 {
-        return 64;
-    }
-    if sort == 5 {
-        return 9;
-    }
-    if sort == 6 {
-        return 1;
-    }
-    2
-}
-
-// The highest.
-fn high_kind(sort: u32) -> u32
-    ensures { result ≡ high_kind sort }
-{
-    if sort == 2 {
-        return 65;
-    }
-    if sort == 3 {
-        return 1023;
-    }
-    if sort == 5 {
-        return 9;
-    }
-    if sort == 6 {
-        return 4095;
-    }
-    2
-}
-
-// Whether the values after the first have a sort's form.
-fn has_values(sort: u32, second: usize, third: usize, bytes: usize) -> bool
-    requires second_bound { second < 268435456 }
-    requires third_bound { third < 268435456 }
-    ensures { result ≡ has_values bytes sort second third }
-{
-    if sort == 1 {
-        return (second <= 7) & (third == 0);
-    }
-    if sort == 2 {
-        return (second <= 1) & (third <= 2);
-    }
-    if sort == 3 {
-        return third == 0;
-    }
-    if sort == 7 {
-        return second + third <= bytes;
-    }
-    (second == 0) & (third == 0)
 }
 
 // Whether a record field's fact names a token inside the field; another fact names none.
-fn names_token(words: &[u32], c: &[u32]) -> bool
-    requires { WellFormed words.now }
-    ensures { result ≡ names_token (tree words.now) (fact_at c.now) }
+fn names_token(tree: Tree, sort: Sort, fact: Fact) -> bool
+    requires { sort_number sort ≡ fact.sort }
+    ensures { result ≡ names_token (tree_of tree.entry) fact }
 {
-    if fields::fact_sort(c) == 5 {
-        return accessors::is_token_within(
-            words,
-            fields::fact_element(c),
-            fields::value(c, 1) as usize,
-        );
+    sort != Sort::RecordField || tree.is_token_within(fact.element, fact.first as usize)
+}
+
+// Whether the values after the first have a sort's form, with a fact text of some bytes.
+fn has_values(sort: Sort, second: u32, third: u32, bytes: usize) -> bool
+    ensures { result ≡ has_values bytes (sort_number sort) second third }
+{
+    match sort {
+        Sort::RulePath => second <= 7 && third == 0,
+        Sort::MethodCall => second <= 1 && third <= 2,
+        Sort::Expression => third == 0,
+        Sort::TemplatePath => second as usize + third as usize <= bytes,
+        Sort::CodePath | Sort::PatternPath | Sort::RecordField | Sort::Node => {
+            second == 0 && third == 0
+        }
+    }
+}
+
+// Whether a fact is one of a tree.
+fn is_of_tree(owner: Owner, tree: Tree, fact: Fact, bytes: usize) -> bool
+    ensures { result ≡ is_fact owner (tree_of tree.entry) bytes fact }
+{
+    match Sort::try_from(fact.sort) {
+        Ok(sort) => {
+            is_allowed(owner, sort)
+                && tree.is_node_at(fact.element, kinds_of(sort))
+                && names_token(tree, sort, fact)
+                && has_values(sort, fact.second, fact.third, bytes)
+        }
+        Err(_) => false,
+    }
+}
+
+// Whether a part is the words of a fact, and that is one of a tree.
+fn is_fact(owner: Owner, tree: Tree, part: &[u32], bytes: usize) -> bool
+    ensures { result ≡ (is_fact_part part.now && is_fact owner (tree_of tree.entry) bytes (fact_at part.now)) }
+{
+    is_fact_part(part) && is_of_tree(owner, tree, Fact::read(part), bytes)
+}
+
+// Whether all words are those of facts, and each is one of the tree.
+fn are_facts(owner: Owner, tree: Tree, words: &[u32], bytes: usize) -> bool
+    ensures { result ≡ (are_fact_words words.now && are_facts owner (tree_of tree.entry) bytes (facts_of words.now)) }
+{
+    if words.len() % 4 != 0 {
+        return false;
+    }
+    for part in words.chunks_exact(4) {
+        if !is_fact(owner, tree, part, bytes) {
+            return false;
+        }
     }
     true
 }
 
-// Whether the fact that a part begins with is one of a tree.
-fn is_fact(owner: Owner, words: &[u32], c: &[u32], bytes: usize) -> bool
-    requires { WellFormed words.now }
-    ensures { result ≡ is_fact owner (tree words.now) bytes (fact_at c.now) }
-{
-    let sort = fields::fact_sort(c);
-    let second = fields::value(c, 2) as usize;
-    let third = fields::value(c, 3) as usize;
-    is_allowed(owner, sort)
-        & accessors::is_node_at(
-            words,
-            fields::fact_element(c),
-            low_kind(sort),
-            high_kind(sort),
-        )
-        & names_token(words, c)
-        & has_values(sort, second, third, bytes)
-}
-
-// Whether all words are those of facts, and each is one of the tree.
-fn are_facts(owner: Owner, words: &[u32], facts: &[u32], bytes: usize) -> bool
-    requires { WellFormed words.now }
-    ensures { result ≡ (are_fact_words facts.now && are_facts owner (tree words.now) bytes (facts_of facts.now)) }
-{
-    let mut c = facts;
-    while 4 <= c.len() {
-        if is_fact_part(c) & is_fact(owner, words, c, bytes) {
-            let d = &c[4..];
-            c = d;
-        } else {
-            return false;
-        }
-    }
-    c.len() == 0
-}
-
-// Whether words are the well-formed facts of a tree, with a fact text of some bytes. The index is theirs then, for `index::find`.
-pub fn check_and_index(
+// The facts of a tree that words are, with a fact text of some bytes; their index is made in a lent slice.
+pub fn check_and_index<'a>(
     owner: Owner,
-    words: &[u32],
-    facts: &[u32],
+    tree: Tree,
+    words: &'a [u32],
     bytes: usize,
-    index: &mut [u64],
-    spare: &mut [u64],
-) -> bool
-    requires well_formed { WellFormed words.now }
-    requires facts_in_bounds { length facts.now / 4 ≤ 16383 → (length facts.now / 4 ≤ length index.old) × (length facts.now / 4 ≤ length spare.old) }
-    ensures value { result ≡ is_fact_list owner (tree words.now) bytes facts.now }
-    ensures indexed { result ≡ true → Indexed facts.now index.new }
+    index: &'a mut [u64],
+) -> Result<Facts<'a>, Refusal>
+    requires { length words.now / 4 ≤ 16383 → length words.now / 4 ≤ length index.old }
+    ensures accepted { IfOk result (λ facts. (facts ≡ words.now) × (is_fact_list owner (tree_of tree.entry) bytes words.now ≡ true)) }
+    ensures refused { IfErr result (λ r. (r ≡ MalformedFacts) × (is_fact_list owner (tree_of tree.entry) bytes words.now ≡ false)) }
 {
-    let n = facts.len() / 4;
-    if 16383 < n {
-        return false;
+    if MAX_FACTS < words.len() / 4 {
+        return Err(Refusal::MalformedFacts);
     }
-    if are_facts(owner, words, facts, bytes) {
-        index::make_index(facts, &mut index[..n], &mut spare[..n]);
-        return index::is_steady(&index[..n]);
+    if !are_facts(owner, tree, words, bytes) {
+        return Err(Refusal::MalformedFacts);
     }
-    false
+    let facts = Facts::index(words, index);
+    if facts.is_steady() {
+        Ok(facts)
+    } else {
+        Err(Refusal::MalformedFacts)
+    }
 }
 
-// The same, where the index is not wanted, in arrays for every list.
-fn check_many(owner: Owner, words: &[u32], facts: &[u32], bytes: usize) -> bool
-    requires { WellFormed words.now }
-    ensures { result ≡ is_fact_list owner (tree words.now) bytes facts.now }
+// The same, where the facts are not wanted, with an index of N entries.
+fn check_in<const N: usize>(
+    owner: Owner,
+    tree: Tree,
+    words: &[u32],
+    bytes: usize,
+) -> Result<(), Refusal>
+    requires { (N ≤ 16384) × (length words.now / 4 ≤ 16383 → length words.now / 4 ≤ N) }
+    ensures { result ≡ cond (is_fact_list owner (tree_of tree.entry) bytes words.now) ok (err MalformedFacts) }
 {
-    let mut index = [0u64; 16384];
-    let mut spare = [0u64; 16384];
-    check_and_index(owner, words, facts, bytes, &mut index, &mut spare)
-}
-
-// In arrays for a short list: clearing those for every list takes longer than most lists.
-fn check_few(owner: Owner, words: &[u32], facts: &[u32], bytes: usize) -> bool
-    requires well_formed { WellFormed words.now }
-    requires facts_len_bound { length facts.now / 4 ≤ 64 }
-    ensures { result ≡ is_fact_list owner (tree words.now) bytes facts.now }
-{
-    let mut index = [0u64; 64];
-    let mut spare = [0u64; 64];
-    check_and_index(owner, words, facts, bytes, &mut index, &mut spare)
+    let mut index = [0u64; N];
+    check_and_index(owner, tree, words, bytes, &mut index)?;
+    Ok(())
 }
 
 // Whether words are the well-formed facts of a tree, with a fact text of some bytes.
-pub fn check_facts(owner: Owner, words: &[u32], facts: &[u32], bytes: usize) -> bool
-    requires { WellFormed words.now }
-    ensures { result ≡ is_fact_list owner (tree words.now) bytes facts.now }
+pub fn check_facts(owner: Owner, tree: Tree, words: &[u32], bytes: usize) -> Result<(), Refusal>
+    ensures { result ≡ cond (is_fact_list owner (tree_of tree.entry) bytes words.now) ok (err MalformedFacts) }
 {
-    if facts.len() / 4 <= 64 {
-        return check_few(owner, words, facts, bytes);
+    // Clearing the large array takes longer than most lists.
+    if words.len() / 4 <= 64 {
+        check_in::<64>(owner, tree, words, bytes)
+    } else {
+        check_in::<16384>(owner, tree, words, bytes)
     }
-    check_many(owner, words, facts, bytes)
 }

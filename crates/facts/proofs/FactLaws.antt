@@ -1,16 +1,22 @@
 -- Facts in a list of words, and which words are facts.
 -- Assumes nothing.
 use mathlib.Core.Path.{◌≡◌, refl, sym, ap, ◌∙◌}
-use mathlib.Core.Bool.{Bool, ◌&&◌}
+use mathlib.Core.Bool.{Bool, cond, ◌&&◌}
 use mathlib.Core.List.{List, [], ◌∷◌}
 use Prim.Native.Nat.{ℕ, zero, suc, ◌+◌, ◌*◌, ◌/◌, ◌<◌, ◌≤◌}
 use native.Mathlib.Omega.{arith}
 use lib.ListN.{length, drop, get_or, length-drop}
 use lib.Seq.{drop-cons, drop-drop}
+use Rattle.std.specs.Prelude.{Some, None, slice_get}
+use Rattle.std.proofs.lemmas.Option.{slice_get-get_or, slice_get_past}
+use lib.Dec.{ltb}
+use borrow.Author.Tests.{lt-ltb, le-ltb}
+use Rattle.words.proofs.TestLaws.{low_or}
+use Rattle.facts.specs.declared.Sort.{Sort}
 use Rattle.syntax.specs.Trees.{Elems}
 use Rattle.facts.specs.declared.Owner.{Owner}
-use Rattle.facts.specs.Facts.{Fact, fact_at, facts_of, are_fact_words, are_facts}
-use Rattle.facts.specs.Keys.{AreLow}
+use Rattle.facts.specs.Facts.{Fact, fact_at, facts_of, are_fact_words, are_facts, sort_number, fact_index, is_known, fact_by}
+use Rattle.facts.specs.Keys.{AreLow, InRange}
 
 -- ---- the facts of a list
 
@@ -53,8 +59,21 @@ module _ (l : List ℕ) (i : ℕ) (h : i < length (facts_of l)) where
       let e : 4 * i + 4 ≡ 4 * suc i = omega arith in
       facts_drop i l ∙ facts_cons (drop (4 * i) l) n ∙ rw (drop-drop 4 (4 * i) l, e, ← facts_drop (suc i) l)
 
-  pub fact-at : (d : Fact) → get_or (facts_of l) i d ≡ fact_at (drop (4 * i) l)
-  fact-at d = ap (λ (fs : List Fact). get_or fs 0 d) (sym (drop-cons (facts_of l) i d h) ∙ facts_from)
+  -- that fact
+  pub get_fact : slice_get (facts_of l) i ≡ Some (fact_at (drop (4 * i) l))
+  get_fact =
+      let f : get_or (facts_of l) i (fact_at l) ≡ fact_at (drop (4 * i) l) = ap (λ (fs : List Fact). get_or fs 0 (fact_at l)) (sym (drop-cons (facts_of l) i (fact_at l) h) ∙ facts_from) in
+      slice_get-get_or (facts_of l) i (fact_at l) h ∙ ap Some f
+
+-- the fact at a place, where there is one, and the first fact of a key, where it is known, by the words that it begins with
+pub fact_at_place : (l : List ℕ) (i : ℕ) → slice_get (facts_of l) i ≡ cond (ltb i (length (facts_of l))) (Some (fact_at (drop (4 * i) l))) None
+fact_at_place l i =
+    low_or i (length (facts_of l))
+    (λ h. rw (lt-ltb i (length (facts_of l)) h) (get_fact l i h))
+    (λ h. rw (le-ltb i (length (facts_of l)) h) (slice_get_past (facts_of l) i h))
+
+pub known_fact : (sort : Sort) (e x : ℕ) (l : List ℕ) → fact_by sort e x (facts_of l) ≡ cond (is_known (sort_number sort) e x (facts_of l)) (Some (fact_at (drop (4 * fact_index (sort_number sort) e x (facts_of l)) l))) None
+known_fact sort e x l = fact_at_place l (fact_index (sort_number sort) e x (facts_of l))
 
 -- ---- elements below 16,384
 
@@ -64,17 +83,14 @@ low_drop zero fs w = w
 low_drop (suc i) [] w = tt
 low_drop (suc i) (f ∷ fs) w = low_drop i fs w.1
 
--- a fact's key fits
-pub record InRange (f : Fact) : Type 0 where
-  pub low_sort : f.sort < 16
-  pub low_element : f.element < 16384
-  pub low_first : f.first < 268435456
+-- the parts of the fact at a place fit in its key: a sort has 4 bits and a value 28
+pub in_range : (l : List ℕ) (i : ℕ) → i < length (facts_of l) → AreLow (facts_of l) → InRange (fact_at (drop (4 * i) l))
+in_range l i h w = record { low_sort = omega arith; low_element = (rw (facts_from l i h) at (low_drop i (facts_of l) w)).0; low_first = omega arith }
 
 abbrev pub Ranged : List Fact → Type 0
 Ranged [] = Unit {0}
 Ranged (f ∷ fs) = InRange f × Ranged fs
 
--- a sort has 4 bits and a value 28
 pub ranged : (l : List ℕ) → AreLow (facts_of l) → Ranged (facts_of l)
 unfolding facts_of
 ranged [] w = tt

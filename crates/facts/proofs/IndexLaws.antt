@@ -4,24 +4,39 @@
 use mathlib.Core.Path.{◌≡◌, refl, sym, ap, ◌∙◌}
 use mathlib.Core.Bool.{Bool, true, false, not, ◌&&◌, ◌||◌}
 use mathlib.Core.List.{List, [], ◌∷◌, ◌++◌, append_assoc, append-nil}
-use Prim.Native.Nat.{ℕ, zero, suc, ◌+◌, ◌-◌, ◌*◌, ◌/◌, ◌<◌, ◌≤◌}
+use Prim.Native.Nat.{ℕ, zero, suc, ◌+◌, ◌-◌, ◌*◌, ◌/◌, ◌%◌, ◌<◌, ◌≤◌}
 use native.Mathlib.Omega.{arith}
-use lib.Dec.{eqb, ltb}
+use lib.Dec.{eqb}
 use lib.ListN.{length, get_or, take, drop, set, drop_of_length-le}
 use lib.Seq.{drop-cons, take-suc-set, take_all}
 use native.Mathlib.Numerals.{add-one}
-use borrow.Author.Tests.{eq-eqb, ne_eqb, ltb-true, lt-ltb, le-ltb, not-true}
+use borrow.Author.Tests.{lt-ltb, le-ltb, not-true}
 use Rattle.sorting.specs.Sorted.{insert, sort, below, count, From, Rising}
 use Rattle.sorting.proofs.Laws.{insert-nil, insert_low, insert_high, sort_rising, count-sort, length-sort, below-after, high_after, low_before, count_none, count_same, count-other, count_at_lem, count-place}
-use Rattle.facts.specs.Facts.{Fact, facts_of, fact_index, has_repeated, has_gap}
-use Rattle.facts.specs.Keys.{key_number, key_of, entries_from, entry_key, entry_place, is_later_key, is_steady, index_of, found_in, Indexed}
+use Rattle.std.specs.Prelude.{Some, None}
+use Rattle.facts.specs.declared.Sort.{Sort}
+use Rattle.facts.specs.declared.Sort.TheVariants.{CodePath, RulePath, MethodCall, Expression, PatternPath, RecordField, Node, TemplatePath}
+use Rattle.facts.specs.Facts.{Fact, facts_of, fact_index, place_of, sort_number, has_repeated, has_gap}
+use Rattle.facts.specs.Keys.{key_number, key_of, entries_from, is_later_key, index_of, IsIndex}
 use Rattle.words.proofs.TestLaws.{same_or, low_or, both_ways, and_both}
 use Rattle.facts.proofs.TestLaws.{stopped, goes_on}
-use Rattle.facts.proofs.FactLaws.{Ranged, ranged, length_facts}
-use Rattle.facts.proofs.KeyLaws.{place, place_found, place-first, place-within, keys_of, length_keys, index_place, repeated_keys, gap_keys}
+use Rattle.facts.proofs.FactLaws.{Ranged, ranged}
+use Rattle.facts.proofs.KeyLaws.{absent, place, place_found, place-first, place-within, keys_of, length_keys, index_place, repeated_keys, gap_keys}
 use Rattle.facts.proofs.SteadyLaws.{count-more, repeats_once, once_repeats, gaps-filled, filled-gaps, steady_keys, steady_has, has_steady}
 
 -- ---- the keys of entries
+
+-- an entry's key and place
+abbrev pub entry_key : ℕ → ℕ
+entry_key v = v / 16384
+
+abbrev pub entry_place : ℕ → ℕ
+entry_place v = v % 16384
+
+-- in rising entries: no key stands twice, and a later step's follows the key of the step before; next is the number after the last key
+unfoldable pub is_steady : ℕ → List ℕ → Bool
+is_steady next [] = true
+is_steady next (v ∷ l) = not (eqb (entry_key v + 1) next) && (not (is_later_key (entry_key v)) || eqb (entry_key v) next) && is_steady (entry_key v + 1) l
 
 abbrev pub entry_keys : List ℕ → List ℕ
 entry_keys [] = []
@@ -127,27 +142,6 @@ steady_exactly fs w h =
 
 -- ---- what an index finds
 
--- a key that fits
-pub all_low : (s e x : ℕ) → (ltb s 16 && ltb e 16384 && ltb x 268435456) ≡ true → (s < 16) × (e < 16384) × (x < 268435456)
-all_low s e x h =
-    let p = and_both (ltb s 16 && ltb e 16384) (ltb x 268435456) h in
-    let q = and_both (ltb s 16) (ltb e 16384) p.0 in
-    (ltb-true _ _ q.0, ltb-true _ _ q.1, ltb-true _ _ p.1)
-
-module _ (k : ℕ) (l : List ℕ) where
-  -- the first entry that is not below a key's has the key, has another, or is not there
-  pub found_hit : below (k * 16384) l < length l → entry_key (get_or l (below (k * 16384) l) 0) ≡ k → found_in k l ≡ entry_place (get_or l (below (k * 16384) l) 0)
-  unfolding found_in
-  found_hit h e = rw (lt-ltb _ _ h, eq-eqb _ _ e)
-
-  pub found-other : below (k * 16384) l < length l → (entry_key (get_or l (below (k * 16384) l) 0) ≡ k → ⊥) → found_in k l ≡ length l
-  unfolding found_in
-  found-other h e = rw (lt-ltb _ _ h, ne_eqb _ _ e)
-
-  pub found_end : length l ≤ below (k * 16384) l → found_in k l ≡ length l
-  unfolding found_in
-  found_end h = rw (le-ltb _ _ h)
-
 pub length-entries : (p : ℕ) (fs : List Fact) → length (entries_from p fs) ≡ length fs
 unfolding entries_from
 length-entries p [] = refl
@@ -223,33 +217,72 @@ module _ (fs : List Fact) (few : length fs ≤ 16383) (k : ℕ) where
   length-all : length entries ≡ length fs
   length-all = length-sort (entries_from 0 fs) ∙ length-entries 0 fs
 
-  -- the index finds the first fact of a key
-  pub found-place : found_in k entries ≡ place k (keys_of fs)
-  found-place =
+  -- the first fact of a key stands at the place of the key's first entry
+  pub entry_hit : at < length entries → entry_key first ≡ k → (place k (keys_of fs) ≡ entry_place first) × (place k (keys_of fs) < length fs)
+  entry_hit h e =
+      let b = behind h e in
+      let a = ahead b.1 in
+      (omega arith, b.1)
+
+  -- and there is none where the key has no entry
+  pub entry_none : (at < length entries → entry_key first ≡ k → ⊥) → place k (keys_of fs) ≡ length fs
+  entry_none n =
       low_or (place k (keys_of fs)) (length fs)
-      (λ h.
-      let a = ahead h in
-      let e : entry_key first ≡ k = omega arith in
-      let b = behind a.0 e in
-      found_hit k entries a.0 e ∙ omega arith)
-      (λ h.
-      let n : place k (keys_of fs) ≡ length fs = omega (arith, place-within k (keys_of fs), length_keys fs) in
-      low_or at (length entries)
-      (λ i. found-other k entries i (λ e. omega (arith, behind i e)) ∙ length-all ∙ sym n)
-      (λ i. found_end k entries i ∙ length-all ∙ sym n))
+      (λ h. let a = ahead h in absurd (n a.0 (omega arith)))
+      (λ h. omega (arith, place-within k (keys_of fs), length_keys fs))
 
--- an index finds what the list has
-pub find_exactly : (fs : List Fact) → Ranged fs → length fs ≤ 16383 → (s e x : ℕ) → s < 16 → x < 268435456 → found_in (key_number s e x) (sort (entries_from 0 fs)) ≡ fact_index s e x fs
-find_exactly fs w few s e x h g = found-place fs few (key_number s e x) ∙ sym (index_place s e x h g fs w)
+-- a sort's number has 4 bits
+low_sort : (sort : Sort) → sort_number sort < 16
+low_sort CodePath = omega arith
+low_sort RulePath = omega arith
+low_sort MethodCall = omega arith
+low_sort Expression = omega arith
+low_sort PatternPath = omega arith
+low_sort RecordField = omega arith
+low_sort Node = omega arith
+low_sort TemplatePath = omega arith
 
-module _ (l index : List ℕ) (x : Indexed l index) where
-  pub indexed_take : take (length l / 4) index ≡ index_of l
-  indexed_take = rw (← length_facts l) x.sorted
+module _ (l index : List ℕ) (w : IsIndex l index) where
+  -- an index has an entry for each fact, in rising order
+  pub index_length : length index ≡ length (facts_of l)
+  index_length = ap length w.sorted ∙ length_index l
 
-  pub indexed_rising : Rising (index_of l)
+  pub index_rising : Rising index
   unfolding index_of
-  indexed_rising = sort_rising (entries_from 0 (facts_of l))
+  index_rising = rw w.sorted (sort_rising (entries_from 0 (facts_of l)))
 
-  pub indexed_find : (s e x : ℕ) → s < 16 → x < 268435456 → found_in (key_number s e x) (index_of l) ≡ fact_index s e x (facts_of l)
+  -- it is steady exactly if no fact is repeated and no step is left out
+  pub index_steady : is_steady 0 index ≡ (not (has_repeated (facts_of l)) && not (has_gap (facts_of l) (facts_of l)))
   unfolding index_of
-  indexed_find s e n h g = find_exactly (facts_of l) (ranged l x.low) x.few s e n h g
+  index_steady = rw w.sorted (steady_exactly (facts_of l) (ranged l w.low) w.few)
+
+  module _ (sort : Sort) (e x : ℕ) where
+    abbrev key : ℕ
+    key = key_number (sort_number sort) e x
+
+    -- a key that does not fit is not there
+    pub place_high : (e < 16384 → x < 268435456 → ⊥) → place_of sort e x (facts_of l) ≡ None
+    place_high n =
+        let a : fact_index (sort_number sort) e x (facts_of l) ≡ length (facts_of l) = absent (sort_number sort) e x (facts_of l) (ranged l w.low) (λ _ h g. n h g) in
+        rw (a, le-ltb (length (facts_of l)) (length (facts_of l)) (omega arith))
+
+    module _ (g : x < 268435456) where
+      placed : fact_index (sort_number sort) e x (facts_of l) ≡ place key (keys_of (facts_of l))
+      placed = index_place (sort_number sort) e x (low_sort sort) g (facts_of l) (ranged l w.low)
+
+      -- the first entry that is not below those of a key has the key
+      pub place_hit : (i : ℕ) → i ≡ below (key * 16384) index → i < length index → entry_key (get_or index i 0) ≡ key → place_of sort e x (facts_of l) ≡ Some (entry_place (get_or index i 0))
+      unfolding index_of
+      place_hit i n b k =
+          let m : i ≡ below (key * 16384) (index_of l) = rw w.sorted at n in
+          let b' : below (key * 16384) (index_of l) < length (index_of l) = rw (← m) (rw w.sorted at b) in
+          let k' : entry_key (get_or (index_of l) (below (key * 16384) (index_of l)) 0) ≡ key = rw (← m) (rw w.sorted at k) in
+          let h = entry_hit (facts_of l) w.few key b' k' in
+          rw (placed, lt-ltb _ _ h.1, h.0, w.sorted, m)
+
+      -- or it has another, or is not there
+      pub place_miss : (i : ℕ) → i ≡ below (key * 16384) index → (i < length index → entry_key (get_or index i 0) ≡ key → ⊥) → place_of sort e x (facts_of l) ≡ None
+      unfolding index_of
+      place_miss i n m =
+          let p : place key (keys_of (facts_of l)) ≡ length (facts_of l) = entry_none (facts_of l) w.few key (rw w.sorted at (rw n at m)) in
+          rw (placed, p, le-ltb (length (facts_of l)) (length (facts_of l)) (omega arith))

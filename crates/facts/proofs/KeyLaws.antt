@@ -11,9 +11,9 @@ use borrow.Author.Tests.{eqb-true, eq-eqb, ne_eqb, ltb-true, lt-ltb}
 use Rattle.sorting.specs.Sorted.{count}
 use Rattle.sorting.proofs.Laws.{count_same, count-other}
 use Rattle.facts.specs.Facts.{Fact, selector, is_key, fact_index, is_known, has_repeated, is_later, has_gap}
-use Rattle.facts.specs.Keys.{key_number, key_of, is_later_key}
+use Rattle.facts.specs.Keys.{key_number, key_of, is_later_key, InRange}
 use Rattle.words.proofs.TestLaws.{same_or, both_ways, and_both, never, ltb_suc}
-use Rattle.facts.proofs.FactLaws.{InRange, Ranged}
+use Rattle.facts.proofs.FactLaws.{Ranged}
 use Rattle.facts.proofs.SteadyLaws.{repeats, gaps}
 
 -- ---- the place of a number in a list

@@ -2,11 +2,10 @@
 -- Assumes nothing.
 use mathlib.Core.Path.{◌≡◌, sym, ◌∙◌}
 use mathlib.Core.Bool.{true, ◌&&◌, true≢false}
-use mathlib.Core.List.{List, [], ◌∷◌, ◌++◌}
-use Prim.Native.Nat.{ℕ, ◌*◌, ◌/◌, ◌<◌, ◌≤◌}
+use mathlib.Core.List.{List, [], ◌∷◌}
+use Prim.Native.Nat.{ℕ, ◌*◌, ◌<◌}
 use native.Mathlib.Omega.{arith}
 use lib.ListN.{length, drop, length-drop}
-use lib.Seq.{take_at}
 use Rattle.syntax.specs.Trees.{tree}
 use Rattle.syntax.specs.Accessors.{node_in, element_at}
 use Rattle.syntax.specs.Checks.{WellFormed}
@@ -14,10 +13,9 @@ use Rattle.syntax.proofs.AccessorLaws.{node_none}
 use Rattle.syntax.proofs.Places.{node_at_lem}
 use Rattle.facts.specs.declared.Owner.{Owner}
 use Rattle.facts.specs.Facts.{Fact, facts_of, are_fact_words, allows, stands, low_kind, high_kind, names_token, has_values, is_fact, are_facts}
-use Rattle.facts.specs.Keys.{AreLow, index_of, Indexed}
+use Rattle.facts.specs.Keys.{AreLow}
 use Rattle.words.proofs.TestLaws.{low_or, and_both}
-use Rattle.facts.proofs.FactLaws.{all_facts, length_facts}
-use Rattle.facts.proofs.IndexLaws.{length_index}
+use Rattle.facts.proofs.FactLaws.{all_facts}
 
 -- a node's number is below 16,384
 node_low : (low high e : ℕ) (words : List ℕ) → WellFormed words → node_in low high (element_at e (tree words)) ≡ true → e < 16384
@@ -37,14 +35,8 @@ facts_low owner words n (f ∷ fs) h t =
     let s = and_both (allows owner f.sort) (stands (tree words) f) r.0 in
     (node_low (low_kind f.sort) (high_kind f.sort) f.element words h s.1, facts_low owner words n fs h p.1)
 
-module _ (owner : Owner) (words : List ℕ) (n : ℕ) (l : List ℕ) (formed : WellFormed words) (few : length l / 4 ≤ 16383)
+module _ (owner : Owner) (words : List ℕ) (n : ℕ) (l : List ℕ) (formed : WellFormed words)
     (t : all_facts owner (tree words) n l ≡ true) where
-  -- facts of the tree: their elements fit, and their index finds them
+  -- facts of the tree: their elements fit
   pub list_low : AreLow (facts_of l)
   list_low = facts_low owner words n (facts_of l) formed (and_both (are_fact_words l) (are_facts owner (tree words) n (facts_of l)) t).1
-
-  list_few : length (facts_of l) ≤ 16383
-  list_few = omega (arith, length_facts l)
-
-  pub list_indexed : (rest : List ℕ) → Indexed l (index_of l ++ rest)
-  list_indexed rest = record { few = list_few; low = list_low; sorted = take_at (index_of l) rest (length (facts_of l)) (length_index l) }

@@ -1,19 +1,31 @@
 -- Facts, document 01, "Words": "Fact, one list per tree: a kind 9 word (4 bits sort, 24 bits element), then three kind 10 values, unused
 -- ones 0." Each definition has its sentence from there, or from refusal 21.
 -- Assumes nothing.
-use Rattle.std.specs.Prelude.{ℕ, ◌+◌, ◌-◌, Bool, true, false, cond, not, ◌&&◌, ◌||◌, List, [], ◌∷◌, eqb, leb, ltb, length}
+use Rattle.std.specs.Prelude.{ℕ, ◌+◌, ◌-◌, ◌<◌, ◌≡◌, Bool, true, false, cond, not, ◌&&◌, ◌||◌, List, [], ◌∷◌, eqb, leb, ltb, length, slice_get, Option, Some, None, Result, MatchResult}
 use Rattle.words.specs.Fields.{kind_at, value_at, fact_sort, fact_element}
 use Rattle.syntax.specs.Trees.{Elems}
 use Rattle.syntax.specs.Accessors.{children, element_at, node_in, token_in}
 use Rattle.facts.specs.declared.Owner.{Owner}
 use Rattle.facts.specs.declared.Owner.TheVariants.{File, Pattern, Template}
+use Rattle.facts.specs.declared.Sort.{Sort}
+use Rattle.facts.specs.declared.Sort.TheVariants.{CodePath, RulePath, MethodCall, Expression, PatternPath, RecordField, Node, TemplatePath}
+use Rattle.facts.specs.declared.UnknownSort.{UnknownSort}
+pub use Rattle.facts.specs.declared.Fact.{Fact}
 
-pub record Fact : Type 0 where
-  pub sort : ℕ
-  pub element : ℕ
-  pub first : ℕ
-  pub second : ℕ
-  pub third : ℕ
+-- "4 bits sort": the sorts and their numbers
+abbrev pub sort_number : Sort → ℕ
+sort_number CodePath = 0
+sort_number RulePath = 1
+sort_number MethodCall = 2
+sort_number Expression = 3
+sort_number PatternPath = 4
+sort_number RecordField = 5
+sort_number Node = 6
+sort_number TemplatePath = 7
+
+-- the sort that has a number, or that none has it
+abbrev pub NumbersSort : ℕ → Result Sort UnknownSort → Type 0
+NumbersSort number r = MatchResult r (λ sort. sort_number sort ≡ number) (λ e. (e.0 ≡ number) × (7 < number))
 
 -- the fact that a part begins with
 abbrev pub fact_at : List ℕ → Fact
@@ -88,6 +100,13 @@ fact_index sort element select (f ∷ fs) = cond (is_key sort element select f) 
 
 abbrev pub is_known : ℕ → ℕ → ℕ → List Fact → Bool
 is_known sort element select fs = ltb (fact_index sort element select fs) (length fs)
+
+-- that place, where the fact is there, and that fact
+abbrev pub place_of : Sort → ℕ → ℕ → List Fact → Option ℕ
+place_of sort element select fs = cond (is_known (sort_number sort) element select fs) (Some (fact_index (sort_number sort) element select fs)) None
+
+abbrev pub fact_by : Sort → ℕ → ℕ → List Fact → Option Fact
+fact_by sort element select fs = slice_get fs (fact_index (sort_number sort) element select fs)
 
 -- "one repeated (sort, element, and step or module)"
 unfoldable pub has_repeated : List Fact → Bool

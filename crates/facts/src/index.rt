@@ -1,124 +1,150 @@
-// The facts in the order of their keys. An entry is a key and the fact's place in its list, as one number.
-ghost use Rattle.std.specs.Prelude.{◌≡◌, ◌<◌, ◌≤◌, ◌*◌, length, drop};
-ghost use Rattle.sorting.specs.Sorted.{Rising};
-ghost use Rattle.words.specs.Fields.{value_at, fact_element};
-ghost use Rattle.facts.specs.Facts.{fact_at, facts_of, fact_index, selector};
-ghost use Rattle.facts.specs.Keys.{key_number, key_of, AreLow, entries_from, is_later_key, is_steady, index_of, found_in, Indexed};
+// A list of facts with its index: the facts in the order of their keys. An entry is a key and the fact's place in the list, as one number.
+ghost use Rattle.std.specs.Prelude.{◌≡◌, ◌<◌, ◌≤◌, ◌*◌, ◌/◌, not, ◌&&◌, length, slice_get};
+ghost use Rattle.facts.specs.Facts.{facts_of, selector, place_of, fact_by, has_repeated, has_gap};
+ghost use Rattle.facts.specs.Keys.{key_number, key_of, AreLow, InRange, entries_from, is_later_key};
 
-use words::{fields, slices};
+use crate::{Fact, Sort};
+use std::marker::Model;
+use words::slices;
 
 // An element, a sort, and a step or module as one number.
 fn key_number(sort: u32, element: usize, select: u32) -> u64
     requires { (sort < 16) × (element < 16384) × (select < 268435456) }
     ensures { result ≡ key_number sort element select }
 {
-    ((element as u64) * 16 + (sort as u64)) * 268435456 + (select as u64)
+    ((element as u64) * 16 + (sort as u64)) * 0x1000_0000 + (select as u64)
 }
 
-// The step of sort 3 or the module of sort 7, of the fact that a part begins with; 0 of another.
-fn selector_of(c: &[u32]) -> u32
-    ensures { result ≡ selector (fact_at c.now) }
+// The step or module of a fact, where its sort has one; 0 of another.
+fn selector_of(fact: Fact) -> u32
+    ensures { result ≡ selector fact }
 {
-    let sort = fields::fact_sort(c);
-    if (sort == 3) | (sort == 7) {
-        return fields::value(c, 1);
+    match Sort::try_from(fact.sort) {
+        Ok(Sort::Expression | Sort::TemplatePath) => fact.first,
+        _ => 0,
     }
-    0
 }
 
-// The key of the fact that a part begins with.
-fn key_of(c: &[u32]) -> u64
-    requires { fact_element c.now < 16384 }
-    ensures { (result ≡ key_of (fact_at c.now)) × (result < 70368744177664) }
+// The key of a fact.
+fn key_of(fact: Fact) -> u64
+    requires { InRange fact }
+    ensures { (result ≡ key_of fact) × (result < 70368744177664) }
 {
-    key_number(
-        fields::fact_sort(c),
-        fields::fact_element(c),
-        selector_of(c),
-    )
+    key_number(fact.sort, fact.element, selector_of(fact))
 }
 
 // Lays the entries of facts, in the order of the list.
-fn fill(facts: &[u32], index: &mut [u64])
-    requires { (length index.old ≡ length (facts_of facts.now)) × (length index.old ≤ 16383) × AreLow (facts_of facts.now) }
-    ensures { index.new ≡ entries_from 0 (facts_of facts.now) }
+fn lay_entries(words: &[u32], entries: &mut [u64])
+    requires { (length entries.old ≡ length (facts_of words.now)) × (length entries.old ≤ 16383) × AreLow (facts_of words.now) }
+    ensures { entries.new ≡ entries_from 0 (facts_of words.now) }
 {
-    let mut i = 0;
-    while i < index.len() {
-        let c = slices::tail(facts, 4 * i);
-        index[i] = key_of(c) * 16384 + (i as u64);
-        i += 1;
+    for (place, entry) in entries.iter_mut().enumerate() {
+        let fact = Fact::read(slices::tail(words, 4 * place));
+        *entry = key_of(fact) * 0x4000 + (place as u64);
     }
-}
-
-// Makes the index of facts.
-pub fn make_index(facts: &[u32], index: &mut [u64], spare: &mut [u64])
-    requires index_len { (length index.old ≡ length (facts_of facts.now)) × (length index.old ≤ 16383) × AreLow (facts_of facts.now) }
-    requires index_len_2 { length index.old ≡ length spare.old }
-    ensures { index.new ≡ index_of facts.now }
-{
-    fill(facts, index);
-    sorting::sort(index, spare);
 }
 
 // Whether a key is that of a later step than 0.
 fn is_later_key(key: u64) -> bool
     ensures { result ≡ is_later_key key }
 {
-    (key / 268435456 % 16 == 3) & (0 < key % 268435456)
+    (key / 0x1000_0000 % 16 == 3) & (0 < key % 0x1000_0000)
 }
 
-// Whether no key of an index stands twice and every later step follows the one before.
-pub fn is_steady(index: &[u64]) -> bool
-    ensures { result ≡ is_steady 0 index.now }
-{
-    let mut next: u64 = 0;
-    let mut i = 0;
-    while i < index.len() {
-        let key = index[i] / 16384;
-        if (key + 1 == next) | (is_later_key(key) & (key != next)) {
-            return false;
+// Facts and their index. A clause sees the list's words.
+#[derive(Drop)]
+pub struct Facts<'a> {
+    words: &'a [u32],
+    index: &'a [u64],
+}
+
+impl<'a> Model for Facts<'a> {
+    ghost use Rattle.std.specs.Prelude.{ℕ, List};
+
+    ghost Value = { List ℕ };
+
+    ghost use Rattle.facts.specs.Keys.{IsIndex};
+
+    ghost view = { λ f. f.words.now };
+
+    ghost invariant = { λ f. IsIndex f.words.now f.index.now };
+}
+
+impl<'a> Facts<'a> {
+    // The facts of a list, whose index is made in the first numbers of a slice.
+    pub fn index(words: &'a [u32], index: &'a mut [u64]) -> Facts<'a>
+        requires few { (length words.now / 4 ≤ 16383) × (length words.now / 4 ≤ length index.old) }
+        requires low { AreLow (facts_of words.now) }
+        ensures { result ≡ words.now }
+    {
+        let entries = &mut index[..words.len() / 4];
+        lay_entries(words, entries);
+        sorting::sort(entries);
+        Facts {
+            words,
+            index: entries,
         }
-        next = key + 1;
-        i += 1;
     }
-    true
-}
 
-// The place in the first entry of a key, or how many entries there are.
-fn find_entry(entries: &[u64], key: u64) -> usize
-    requires rising { Rising entries.now }
-    requires key_bound { key < 70368744177664 }
-    ensures { result ≡ found_in key entries.now }
-{
-    let at = sorting::below(entries, key * 16384);
-    if at < entries.len() {
-        let entry = entries[at];
-        if entry / 16384 == key {
-            return (entry % 16384) as usize;
+    // How many facts there are.
+    pub fn count(&self) -> usize
+        ensures value { result ≡ length (facts_of self.now) }
+        ensures few { result ≤ 16383 }
+    {
+        self.index.len()
+    }
+
+    // The fact at a place of the list.
+    pub fn at(&self, place: usize) -> Option<Fact>
+        ensures { result ≡ slice_get (facts_of self.now) place }
+    {
+        if place < self.index.len() {
+            return Some(Fact::read(slices::tail(self.words, 4 * place)));
+        }
+        None
+    }
+
+    // The place of the first fact of a sort at an element, with a step or module.
+    pub fn place(&self, sort: Sort, element: usize, select: u32) -> Option<usize>
+        ensures { result ≡ place_of sort element select (facts_of self.now) }
+    {
+        let entries = self.index;
+        if (16384 <= element) | (0x1000_0000 <= select) {
+            return None;
+        }
+        let key = key_number(sort.into(), element, select);
+        match entries.get(sorting::below(entries, key * 0x4000)) {
+            Some(entry) if *entry / 0x4000 == key => Some((*entry % 0x4000) as usize),
+            _ => None,
         }
     }
-    entries.len()
-}
 
-// The place of the first fact of a sort at an element, with a step or module; how many facts there are where there is none.
-pub fn find(facts: &[u32], index: &[u64], sort: u32, element: usize, select: u32) -> usize
-    requires { Indexed facts.now index.now }
-    ensures { result ≡ fact_index sort element select (facts_of facts.now) }
-{
-    let n = facts.len() / 4;
-    if (sort < 16) & (element < 16384) & (select < 268435456) {
-        return find_entry(&index[..n], key_number(sort, element, select));
+    // That fact.
+    pub fn find(&self, sort: Sort, element: usize, select: u32) -> Option<Fact>
+        ensures { result ≡ fact_by sort element select (facts_of self.now) }
+    {
+        self.at(self.place(sort, element, select)?)
     }
-    n
-}
 
-// Value 1, 2 or 3 of the fact at a place; 0 where there is none.
-pub fn value(facts: &[u32], place: usize, k: usize) -> u32
-    ensures { result ≡ value_at (drop (4 * place) facts.now) k }
-{
-    if place < facts.len() {
-        return fields::value(slices::tail(facts, 4 * place), k);
+    // The first fact of a sort at an element, of a sort without steps and modules.
+    pub fn first(&self, sort: Sort, element: usize) -> Option<Fact>
+        ensures { result ≡ fact_by sort element 0 (facts_of self.now) }
+    {
+        self.find(sort, element, 0)
     }
-    0
+
+    // Whether no fact is repeated and no step is left out: in the index, no key stands twice and every later step follows the one before.
+    pub fn is_steady(&self) -> bool
+        ensures { result ≡ (not (has_repeated (facts_of self.now)) && not (has_gap (facts_of self.now) (facts_of self.now))) }
+    {
+        let mut next = 0;
+        for entry in self.index {
+            let key = *entry / 0x4000;
+            if (key + 1 == next) | (is_later_key(key) & (key != next)) {
+                return false;
+            }
+            next = key + 1;
+        }
+        true
+    }
 }

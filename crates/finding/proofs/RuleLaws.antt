@@ -1,71 +1,111 @@
 -- What is found with a rule that was made ready, with the rule of a number, and with all rules in turn.
 -- Assumes nothing.
-use mathlib.Core.Path.{◌≡◌, refl, sym, ap, subst, fun_ext, ◌∙◌}
-use mathlib.Core.Bool.{Bool}
-use mathlib.Core.List.{List, ◌++◌}
-use Prim.Native.Nat.{ℕ, ◌+◌, ◌≤◌, ◌<◌}
+use mathlib.Core.Path.{◌≡◌, refl, sym, ap, subst, ◌∙◌}
+use mathlib.Core.List.{List, [], ◌++◌, append_assoc, append-nil}
+use native.Mathlib.Numerals.{add-one}
+use mathlib.Core.Bool.{and-false}
+use Prim.Native.Nat.{ℕ, zero, suc, ◌+◌, ◌<◌}
 use native.Mathlib.Omega.{arith}
-use lib.ListN.{length, take}
+use lib.ListN.{length, length-append}
+use Rattle.std.proofs.Common.{Option, Some, None, option_map}
+use Rattle.words.specs.declared.texts.Range.{Range}
 use Rattle.syntax.specs.Trees.{Elems, size, tree}
-use Rattle.syntax.specs.Accessors.{element_at, by_itself}
-use Rattle.fragments.specs.Pairs.{Pair, pair_at, code_of, tree_of}
+use Rattle.syntax.specs.declared.trees.Tree.{Tree}
+use Rattle.syntax.specs.Views.{tree_of}
+use Rattle.fragments.specs.declared.forms.Side.TheVariants as side
+use Rattle.fragments.specs.Pairs as pairs
+use Rattle.paths.specs.Steps.{SideTree}
 use Rattle.rules.specs.declared.numbering.Rule.{Rule}
-use Rattle.rules.specs.declared.numbering.Found.TheVariants.{At}
-use Rattle.captures.specs.Attempts.{Attempt}
-use Rattle.matcher.specs.declared.marks.Context.{Context}
-use Rattle.matcher.specs.Matcher.{matcher_of}
-use Rattle.checks.specs.declared.Restriction.{Restriction}
-use Rattle.get_match.specs.GetMatch.{try_match}
-use Rattle.checks.specs.Given.{File, Rules, file_of, found_rule}
-use Rattle.rule_match.specs.RuleMatch.{template_renders, calls, rule_match, attempt_of}
-use Rattle.preparing.specs.Ready.{Ready}
-use Rattle.rule_match.proofs.MatchLaws.{attempt_is}
+use Rattle.rule_paths.specs.RulePaths.{tree_at, template_form}
+use Rattle.rule_paths.specs.Needs.{PairedRule, paired}
+use Rattle.captures.specs.Attempts.{Attempt, failed}
+use Rattle.matcher.specs.Matcher.{Matcher, matcher_of}
+use Rattle.matcher.specs.declared.Matcher as declared
+use Rattle.trees.specs.declared.File.{File as Accepted}
+use Rattle.checks.specs.declared.Rules.{Rules}
+use Rattle.checks.specs.Given.{file_in, found_rule}
+use Rattle.preparing.specs.Ready.{form_matcher}
+use Rattle.rule_match.specs.RuleMatch.{calls, attempt_of}
 use Rattle.candidates.specs.Candidates.{Candidate}
 use Rattle.walk_nodes.specs.WalkCandidates.{nodes_of, walk_candidates, accepted}
-use Rattle.walk_nodes.specs.Finds.{Laid, Finds}
-use Rattle.walk_nodes.proofs.TableLaws.{words-none}
-use Rattle.walk_nodes.proofs.CandidateLaws.{below-rule, walk_none, walk_more, walk_up}
+use Rattle.walk_nodes.specs.Finds.{Finds, FindsNodes, attempts}
+use Rattle.walk_nodes.proofs.CandidateLaws.{below, below_none, below-same, below-rule, walk_none, walk_more, walk_up}
 
--- by the parts that `get_match` has, and by the rule
-module _ (p : Pair) (rule : Rule) (text words facts : List ℕ) (range : Restriction) where
-  pub finds_ready : {marks paths index : List ℕ} {cx : Context} (l code : List ℕ) (b : ℕ → Bool) → Ready p rule marks paths index cx
-      → l ≡ tree_of 0 rule.form p → code ≡ code_of 0 p
-      → ((e : ℕ) → b e ≡ template_renders p rule.form rule.template (file_of words text facts) e)
-      → (cs : List Candidate) (number n : ℕ) (table : List ℕ)
-      → Finds (cs ++ accepted
-      (λ e _. try_match (calls p rule.form (file_of words text facts)) (matcher_of code text marks words facts cx) (tree l) range
-      (by_itself (element_at e (tree words))) (b e)) (nodes_of (tree words) number)) n table
-      → Finds (cs ++ accepted (λ e _. rule_match p rule (file_of words text facts) range e) (nodes_of (tree words) number)) n table
-  finds_ready l code b r el ec eb cs number n table h =
-      subst (λ (at : ℕ → Attempt). Finds (cs ++ accepted (λ e _. at e) (nodes_of (tree words) number)) n table)
-      (fun_ext (λ e. attempt_is p rule text words facts range e l code (b e) r el ec (eb e))) h
+-- ---- the rule of a number
 
--- the attempts of a number are those of the rule that was found
-module _ (q : Rules) (f : File) (range : Restriction) (number : ℕ) (rule : Rule) (found : found_rule q number ≡ At rule) where
-  pub finds_found : (cs : List Candidate) (t : Elems) (n : ℕ) (table : List ℕ)
-      → Finds (cs ++ accepted (λ e _. rule_match (pair_at rule.pair q.directory q.words q.bytes) rule f range e) (nodes_of t number)) n table
-      → Finds (cs ++ accepted (attempt_of q f range) (nodes_of t number)) n table
-  finds_found cs t n table h =
-      subst (λ (l : List Candidate). Finds (cs ++ l) n table)
-      (below-rule (λ e _. rule_match (pair_at rule.pair q.directory q.words q.bytes) rule f range e) (attempt_of q f range) t number (size t)
-      (λ e. rw found)) h
+module _ (q : Rules) (file : Accepted) (range : Option Range) (number : ℕ) (before : List Candidate) where
+  abbrev root : Elems
+  root = tree file.tree.words.now
+
+  abbrev attempt : ℕ → ℕ → Attempt
+  attempt = attempt_of q (file_in file) range
+
+  -- nothing matches with a rule that is not there
+  nothing : ((e : ℕ) → attempt e number ≡ failed) → (n : ℕ) → below attempt root number n ≡ []
+  nothing h zero = below_none attempt root number
+  nothing h (suc n) = ap (below attempt root number) (sym (add-one n)) ∙ below-same attempt root number n (rw (h n, and-false _)) ∙ nothing h n
+
+  pub finds_none : None ≡ option_map (paired q) (found_rule q number) → before ≡ before ++ accepted attempt (nodes_of root number)
+  finds_none e = go (found_rule q number) refl e
+    where
+      go : (r : Option Rule) → found_rule q number ≡ r → None ≡ option_map (paired q) r → before ≡ before ++ accepted attempt (nodes_of root number)
+      go None f k = rw (nothing (λ i. rw f) (size root)) (sym (append-nil before))
+      go (Some r) f k = absurd cc
+
+  -- the attempts of a rule that is there are those of what was made ready
+  pub finds_found : (x : PairedRule) (m : declared.Matcher) (pattern : Tree) (template : Option SideTree) {A : Type 0} (result : Option A) (found : List Candidate)
+      → Some x ≡ option_map (paired q) (found_rule q number)
+      → matcher_of m ≡ form_matcher x.pair x.rule.form (file_in file) → m.tree ≡ file.tree
+      → pattern.words.now ≡ pairs.tree_of side.Pattern x.rule.form x.pair
+      → template ≡ option_map (tree_at x.pair side.Template) (template_form x.rule.form x.rule.template)
+      → FindsNodes (matcher_of m) (length pattern.words.now + length m.tree.words.now) (tree_of pattern) template range number before result found
+      → Finds (before ++ accepted attempt (nodes_of root number)) result found
+  finds_found x m pattern template result found e em et ep en g = go (found_rule q number) refl e
+    where
+      n : ℕ
+      n = calls x.pair x.rule.form (file_in file)
+
+      tried : ℕ → ℕ → Attempt
+      tried = attempts n (matcher_of m) (tree_of pattern) template range
+
+      go : (r : Option Rule) → found_rule q number ≡ r → Some x ≡ option_map (paired q) r → Finds (before ++ accepted attempt (nodes_of root number)) result found
+      go None f k = absurd cc
+      go (Some r) f k =
+          let s : x ≡ paired q r = cc in
+          let ef : m.facts.now ≡ file.facts = ap (λ (y : Matcher). y.facts) em in
+          let same : (i : ℕ) → tried i number ≡ attempt i number = λ i. rw (em, et, ep, en, ef, s, f) in
+          let t : (matcher_of m).tree ≡ root = rw et in
+          subst (λ (l : List Candidate). Finds (before ++ l) result found)
+          (ap (λ (z : Elems). accepted tried (nodes_of z number)) t ∙ below-rule tried attempt root number (size root) same)
+          (g.finds n (omega (arith, ap length ep, ap (λ (z : Tree). length z.words.now) et)))
 
 -- ---- rule by rule
 
-module _ (attempt : ℕ → ℕ → Attempt) (t : Elems) where
-  pub finds_none : (table : List ℕ) → Finds (accepted attempt (walk_candidates t 0)) 0 table
-  finds_none table = rw (walk_none attempt t) (record { few = λ _. record { count = refl; words = words-none table }; many = λ h. absurd (omega arith) })
+module _ (attempt : ℕ → ℕ → Attempt) (t : Elems) (before : List Candidate) where
+  abbrev walked : ℕ → List Candidate
+  walked rules = before ++ accepted attempt (walk_candidates t rules)
 
-  pub finds_more : (rules n n' : ℕ) (table table' : List ℕ) → n ≤ 1024 → Finds (accepted attempt (walk_candidates t rules)) n table
-      → ((cs : List Candidate) → Laid cs n table → Finds (cs ++ accepted attempt (nodes_of t rules)) n' table')
-      → Finds (accepted attempt (walk_candidates t (rules + 1))) n' table'
-  finds_more rules n n' table table' few so_far more =
-      rw (walk_more attempt t rules) (more (accepted attempt (walk_candidates t rules)) (so_far.few few))
+  pub walk_starts : before ≡ walked 0
+  walk_starts = rw (walk_none attempt t) (sym (append-nil before))
 
-  -- all rules were tried, or more than 1,024 were found
-  pub finds_all : (rules all n : ℕ) (table : List ℕ) → rules ≤ all → (n ≤ 1024 → all ≤ rules)
-      → Finds (accepted attempt (walk_candidates t rules)) n table → Finds (accepted attempt (walk_candidates t all)) n table
-  finds_all rules all n table le ends so_far = record {
-    few = λ h. let e : rules ≡ all = omega (arith, ends h) in rw (sym e) (so_far.few h);
-    many = λ h. omega (arith, so_far.many h, walk_up attempt t rules all le);
-  }
+  more : (rules : ℕ) → walked (rules + 1) ≡ walked rules ++ accepted attempt (nodes_of t rules)
+  more rules = rw (walk_more attempt t rules) (sym (append_assoc before _ _))
+
+  module _ (rules : ℕ) (found : List Candidate) (so_far : found ≡ walked rules) where
+    pub walk_goes_on : (found' : List Candidate) → found' ≡ found ++ accepted attempt (nodes_of t rules) → found' ≡ walked (rules + 1)
+    walk_goes_on found' f = f ∙ rw so_far (sym (more rules))
+
+    -- more were found than have room
+    pub walk_many : {A : Type 0} (r : Option A) (all : ℕ) (found' : List Candidate) → r ≡ None → rules < all → Finds (found ++ accepted attempt (nodes_of t rules)) r found' → Finds (walked all) r found'
+    walk_many None all found' e less f =
+        let m : length (walked (rules + 1)) ≡ length (found ++ accepted attempt (nodes_of t rules)) =
+        ap length (more rules ∙ ap (λ (l : List Candidate). l ++ accepted attempt (nodes_of t rules)) (sym so_far)) in
+        omega (
+          arith,
+          m,
+          f,
+          length-append before (accepted attempt (walk_candidates t (rules + 1))),
+          length-append before (accepted attempt (walk_candidates t all)),
+          walk_up attempt t (rules + 1) all (omega arith),
+        )
+    walk_many (Some done) all found' e less f = absurd cc

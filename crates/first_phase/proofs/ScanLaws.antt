@@ -1,6 +1,6 @@
 -- The heads of a well-formed tree's nodes.
 -- Assumes nothing.
-use Rattle.std.proofs.Common.{◌≡◌, ℕ, ◌+◌, ◌-◌, ◌*◌, ◌/◌, ◌<◌, ◌≤◌, true, false, leb, List, length, take, drop, sym, ap, ◌∙◌, subst, arith, length-drop, take_all, drop-drop, eqb-true, leb-true}
+use Rattle.std.proofs.Common.{◌≡◌, ℕ, ◌+◌, ◌-◌, ◌*◌, ◌/◌, ◌<◌, ◌≤◌, true, leb, List, length, take, drop, sym, ap, ◌∙◌, subst, arith, length-drop, take_all, drop-drop, eqb-true, leb-true}
 use mathlib.Core.Bool.{false≢true}
 use Rattle.words.specs.Fields.{word_at, kind_at}
 use Rattle.words.proofs.TestLaws.{and_both, low_or}
@@ -40,8 +40,8 @@ head_is_lem l low high e w is =
     (λ far. absurd (false≢true (rw (tree-none l e w far) at is)))
 
 -- the part behind one element more
-pub three-behind : (l c : List ℕ) (e : ℕ) → c ≡ drop (e * 3) l → take (length c - 3) (drop 3 c) ≡ drop ((e + 1) * 3) l
-three-behind l c e is =
+pub three_behind : (l c : List ℕ) (e : ℕ) → c ≡ drop (e * 3) l → take (length c - 3) (drop 3 c) ≡ drop ((e + 1) * 3) l
+three_behind l c e is =
     let q : e * 3 + 3 ≡ (e + 1) * 3 = omega arith in
     take_all (length c - 3) (drop 3 c) (simp length-drop (omega arith))
     ∙ ap (λ (x : List ℕ). drop 3 x) is ∙ drop-drop 3 (e * 3) l ∙ ap (λ (n : ℕ). drop n l) q

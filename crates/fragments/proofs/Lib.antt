@@ -1,2 +1,4 @@
-mod DirectoryLaws
+-- Laws of the definitions of specs/, for this crate and those above it.
+pub mod FormLaws
+pub mod DirectoryLaws
 pub mod PairLaws

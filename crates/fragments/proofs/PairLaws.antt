@@ -1,41 +1,44 @@
--- The pair of a number, one row after the other. Each of its parts is found without the others.
+-- The pair of a number, one row after the other.
 -- Assumes nothing.
-use mathlib.Core.Path.{◌≡◌, refl, ◌∙◌}
-use mathlib.Core.Bool.{true, false}
-use mathlib.Core.List.{List}
-use Prim.Native.Nat.{ℕ, zero, suc, ◌-◌, ◌<◌}
+use mathlib.Core.Path.{◌≡◌, refl, ap}
+use mathlib.Core.List.{List, [], ◌∷◌}
+use Prim.Native.Nat.{ℕ, zero, suc, ◌-◌, ◌<◌, ◌≤◌}
 use native.Mathlib.Omega.{arith}
-use lib.ListN.{drop}
+use lib.ListN.{length, drop, length-drop}
+use Rattle.std.specs.List.{AllByRecursion}
+use Rattle.fragments.specs.declared.directory.Slice.TheVariants.{Words}
 use Rattle.fragments.specs.Directory.{counted}
-use Rattle.fragments.specs.Pairs.{pair_of, pair_at}
+use Rattle.fragments.specs.Pairs.{Pair, next_pair, pairs_from, pair_behind}
 
-pub pair_here : (d w b : List ℕ) → pair_at 0 d w b ≡ pair_of d w b
-unfolding pair_at
-pair_here d w b = refl
+pub pair_here : (p : Pair) → pair_behind 0 p ≡ p
+unfolding pair_behind
+pair_here p = refl
 
-pub pair_suc : (n : ℕ) (d w b : List ℕ) → pair_at (suc n) d w b ≡ pair_at n (drop 27 d) (drop (counted true d) w) (drop (counted false d) b)
-unfolding pair_at
-pair_suc n d w b = refl
+pub pair_suc : (n : ℕ) (p : Pair) → pair_behind (suc n) p ≡ pair_behind n (next_pair p)
+unfolding pair_behind
+pair_suc n p = refl
 
-pub pair_next : (n : ℕ) (d w b : List ℕ) → 0 < n → pair_at n d w b ≡ pair_at (n - 1) (drop 27 d) (drop (counted true d) w) (drop (counted false d) b)
-pair_next zero d w b h = absurd (omega arith)
-pair_next (suc n) d w b h = let e : suc n - 1 ≡ n = omega arith in pair_suc n d w b ∙ rw e
+pub pairs_none : (p : Pair) → pairs_from 0 p ≡ []
+unfolding pairs_from
+pairs_none p = refl
 
-pub row_alone : (n : ℕ) (d w b w' b' : List ℕ) → (pair_at n d w b).row ≡ (pair_at n d w' b').row
-unfolding pair_at
-row_alone zero d w b w' b' = refl
-row_alone (suc n) d w b w' b' = row_alone n (drop 27 d) _ _ _ _
+pub pairs_more : (n : ℕ) (p : Pair) → 0 < n → pairs_from n p ≡ p ∷ pairs_from (n - 1) (next_pair p)
+unfolding pairs_from
+pairs_more zero p h = absurd (omega arith)
+pairs_more (suc n) p h = let e : suc n - 1 ≡ n = omega arith in rw e
 
-pub words-alone : (n : ℕ) (d w b b' : List ℕ) → (pair_at n d w b).words ≡ (pair_at n d w b').words
-unfolding pair_at
-words-alone zero d w b b' = refl
-words-alone (suc n) d w b b' = words-alone n (drop 27 d) (drop (counted true d) w) _ _
+-- a turn of the iterator
+pub pairs_step : (n : ℕ) (p r q : Pair) (now : List Pair) → pairs_from n p ≡ now → 0 < n → r ≡ p → q ≡ next_pair p → now ≡ r ∷ pairs_from (n - 1) q
+pairs_step n p r q now e h f g = rw (← e, f, g) (pairs_more n p h)
 
-pub bytes-alone : (n : ℕ) (d w b w' : List ℕ) → (pair_at n d w b).bytes ≡ (pair_at n d w' b).bytes
-unfolding pair_at
-bytes-alone zero d w b w' = refl
-bytes-alone (suc n) d w b w' = bytes-alone n (drop 27 d) _ (drop (counted false d) b) _
+-- n pairs are n, and the pair of a number is the one at that place
+pub length-pairs : (n : ℕ) (p : Pair) → length (pairs_from n p) ≡ n
+unfolding pairs_from
+length-pairs zero p = refl
+length-pairs (suc n) p = ap suc (length-pairs n (next_pair p))
 
--- its parts together are the pair
-pub pair_is : (n : ℕ) (d w b row words bytes : List ℕ) → row ≡ (pair_at n d w b).row → words ≡ (pair_at n d w b).words → bytes ≡ (pair_at n d w b).bytes → pair_at n d w b ≡ pair_of row words bytes
-pair_is n d w b row words bytes r v u = rw (r, v, u)
+-- no pair has more words than are handed in
+pub pairs_within : (n : ℕ) (p : Pair) (m : ℕ) → length p.words ≤ m → AllByRecursion (λ (q : Pair). length q.words ≤ m) (pairs_from n p)
+unfolding pairs_from
+pairs_within zero p m h = tt
+pairs_within (suc n) p m h = (h, pairs_within n (next_pair p) m (omega (arith, length-drop (counted Words p.row) p.words)))

@@ -1,8 +1,19 @@
 // A row of the directory is 27 lengths. A function that takes a row takes the directory from there on.
-ghost use Rattle.std.specs.Prelude.{◌≡◌, ◌≤◌, ◌*◌};
-ghost use Rattle.fragments.specs.Directory.{entry, counts, count_at, before, is_row, row_count, add_up, is_directory};
+ghost use Rattle.std.specs.Prelude.{◌≡◌, true, ◌≤◌, ◌+◌, ◌*◌, IfSome, IfNone};
+ghost use Rattle.fragments.specs.declared.directory.Slice.TheVariants.{Words, Bytes};
+ghost use Rattle.fragments.specs.Directory.{entry, counts, count_at, before, counted, is_row, row_count, add_up, is_directory};
 
 use words::{fields, slices};
+
+// How many entries a row has.
+pub const ROW_LEN: usize = 27;
+
+// Which of the two slices beside the directory a part stands in.
+#[derive(Clone, Copy, Debug, PartialEq, Eq)]
+pub enum Slice {
+    Words,
+    Bytes,
+}
 
 // Entry k of a row.
 pub fn entry(row: &[u32], k: usize) -> usize
@@ -12,81 +23,81 @@ pub fn entry(row: &[u32], k: usize) -> usize
     fields::word(row, k) as usize
 }
 
-// Whether entry k counts words, or whether it counts bytes.
-fn counts(words: bool, k: usize) -> bool
-    ensures { result ≡ counts words k }
-{
-    if words {
-        return (k == 0) | (k == 4) | (7 <= k);
+impl Slice {
+    // Whether entry k counts what stands in this slice.
+    fn is_counted(self, k: usize) -> bool
+        ensures { result ≡ counts self k }
+    {
+        match self {
+            Slice::Words => k == 0 || k == 4 || 7 <= k,
+            Slice::Bytes => k == 1 || k == 2 || k == 5 || k == 6,
+        }
     }
-    (k == 1) | (k == 2) | (k == 5) | (k == 6)
-}
 
-// How many words, or bytes, entry k counts.
-fn count_at(row: &[u32], words: bool, k: usize) -> usize
-    ensures value { result ≡ count_at words k row.now }
-    ensures upper_bound { result ≤ 4294967295 }
-{
-    if counts(words, k) {
-        return entry(row, k);
+    // How much of this slice entry k counts.
+    fn count_at(self, row: &[u32], k: usize) -> usize
+        ensures value { result ≡ count_at self k row.now }
+        ensures upper_bound { result ≤ 4294967295 }
+    {
+        if self.is_counted(k) { entry(row, k) } else { 0 }
     }
-    0
-}
 
-// How many words, or bytes, the entries before k count.
-pub fn counted_before(row: &[u32], words: bool, k: usize) -> usize
-    requires { k ≤ 27 }
-    ensures value { result ≡ before words k row.now }
-    ensures upper_bound { result ≤ 4294967295 * 27 }
-{
-    let mut sum: usize = 0;
-    let mut i: usize = 0;
-    while i < k {
-        sum += count_at(row, words, i);
-        i += 1;
+    // How much of this slice the entries before k count.
+    pub fn counted_before(self, row: &[u32], k: usize) -> usize
+        requires { k ≤ 27 }
+        ensures value { result ≡ before self k row.now }
+        ensures upper_bound { result ≤ 4294967295 * 27 }
+    {
+        let mut sum = 0;
+        for i in 0..k {
+            sum += self.count_at(row, i);
+        }
+        sum
     }
-    sum
 }
 
 // Whether a row says of its template what it may.
 fn is_row(row: &[u32]) -> bool
     ensures { result ≡ is_row row.now }
 {
-    let given = entry(row, 3);
-    (given == 1)
-        | ((given == 0) & (entry(row, 4) == 0) & (entry(row, 5) == 0) & (entry(row, 6) == 0))
+    match entry(row, 3) {
+        1 => true,
+        0 => entry(row, 4) == 0 && entry(row, 5) == 0 && entry(row, 6) == 0,
+        _ => false,
+    }
+}
+
+// How many words and bytes are left behind a row; none where it is no row or counts more.
+fn left_behind(row: &[u32], words: usize, bytes: usize) -> Option<(usize, usize)>
+    ensures fits { IfSome result (λ left. (is_row row.now ≡ true) × (left.0 + counted Words row.now ≡ words) × (left.1 + counted Bytes row.now ≡ bytes)) }
+    ensures misfit { IfNone result (is_row row.now ≡ true → counted Words row.now ≤ words → counted Bytes row.now ≤ bytes → ⊥) }
+{
+    if !is_row(row) {
+        return None;
+    }
+    let words_left = words.checked_sub(Slice::Words.counted_before(row, ROW_LEN))?;
+    let bytes_left = bytes.checked_sub(Slice::Bytes.counted_before(row, ROW_LEN))?;
+    Some((words_left, bytes_left))
 }
 
 // Whether rows count exactly these words and bytes. What is left is counted down, so no sum is too large.
 fn add_up(directory: &[u32], words: usize, bytes: usize) -> bool
     ensures { result ≡ add_up (row_count directory.now) directory.now words bytes }
 {
-    let mut row = directory;
-    let mut n = directory.len() / 27;
-    let mut words_left = words;
-    let mut bytes_left = bytes;
-    while 0 < n {
-        let w = counted_before(row, true, 27);
-        let b = counted_before(row, false, 27);
-        if is_row(row) & (w <= words_left) & (b <= bytes_left) {
-            words_left -= w;
-            bytes_left -= b;
-            n -= 1;
-            let next = slices::tail(row, 27);
-            row = next;
-        } else {
-            return false;
+    let mut left = (words, bytes);
+    for row in directory.chunks_exact(ROW_LEN) {
+        match left_behind(row, left.0, left.1) {
+            Some(behind) => left = behind,
+            None => return false,
         }
     }
-    (words_left == 0) & (bytes_left == 0)
+    left == (0, 0)
 }
 
 // Whether a directory is well-formed for the words and bytes beside it.
+#[tactic(auto, unfolding(crate::specs::Directory::is_directory))]
 pub fn is_directory(directory: &[u32], words: &[u32], bytes: &[u8]) -> bool
     ensures { result ≡ is_directory directory.now words.now bytes.now }
 {
-    if directory.len() % 27 == 0 {
-        return add_up(directory, words.len(), bytes.len());
-    }
-    false
+    directory.len() % ROW_LEN == 0 && add_up(directory, words.len(), bytes.len())
 }

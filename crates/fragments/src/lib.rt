@@ -2,5 +2,6 @@
 // (docs/FORMAT.md, "Rules").
 #![tactic(auto)]
 
+pub mod forms; // forms.rt: the sides and the forms of a pair
 pub mod directory; // directory.rt: the rows, what they count, and their faults
-pub mod pairs; // pairs.rt: the lists, codes and trees of a pair
+pub mod pairs; // pairs.rt: a pair and its parts, and all pairs in turn

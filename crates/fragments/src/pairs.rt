@@ -1,142 +1,227 @@
-// The parts of a pair, which is handed on as its row, its words and its bytes, each from its first on.
-ghost use Rattle.std.specs.Prelude.{◌≡◌, true, false, List, [], ℕ, ◌≤◌, length, drop};
-ghost use Rattle.fragments.specs.Directory.{counted};
-ghost use Rattle.fragments.specs.Pairs.{pair_at, part_of, in_words, in_bytes, list_of, text_of, code_of, is_given, tree_of, facts_of};
+// A pair and its parts, and all pairs in turn.
+ghost use Rattle.std.specs.Prelude.{◌≡◌, ◌^◌, ◌≤◌, ◌<◌, length};
+ghost use Rattle.std.specs.Iterator.{YieldsFirst, item_count};
+ghost use Rattle.fragments.specs.Directory.{row_count, is_directory};
+ghost use Rattle.fragments.specs.Pairs.{pairs_of, part_of, next_pair, first_pair, pair_at, pairs_in, list_of, text_of, code_of, is_given, tree_of, facts_of, is_present};
 
 use crate::directory;
+use crate::directory::{ROW_LEN, Slice};
+use crate::forms::{Form, Side};
+use std::marker::Model;
+use std::mem;
 use words::slices;
 
-// The words that an entry counts.
-pub fn word_part<'a>(row: &[u32], words: &'a [u32], k: usize) -> &'a [u32]
+// The part that entry k of a row counts, of a slice that begins with the row's first.
+fn part_of<'a, T>(row: &[u32], slice: Slice, from: &'a [T], k: usize) -> &'a [T]
     requires { k ≤ 26 }
-    ensures { result.now ≡ part_of true row.now words.now k }
+    ensures { result.now ≡ part_of slice row.now from.now k }
 {
-    let start = directory::counted_before(row, true, k);
-    slices::part_of(words, start, start + directory::entry(row, k))
+    let start = slice.counted_before(row, k);
+    slices::part_of(from, start, start + directory::entry(row, k))
 }
 
-// The bytes that an entry counts.
-pub fn byte_part<'a>(row: &[u32], bytes: &'a [u8], k: usize) -> &'a [u8]
-    requires { k ≤ 26 }
-    ensures { result.now ≡ part_of false row.now bytes.now k }
-{
-    let start = directory::counted_before(row, false, k);
-    slices::part_of(bytes, start, start + directory::entry(row, k))
+// A pair: the directory from its row on, and the words and bytes from its first on.
+#[derive(Drop)]
+pub struct Pair<'a> {
+    row: &'a [u32],
+    words: &'a [u32],
+    bytes: &'a [u8],
 }
 
-// The rows behind a row.
-pub fn next_row(row: &[u32]) -> &[u32]
-    ensures { result.now ≡ drop 27 row.now }
-{
-    slices::tail(row, 27)
+impl<'a> Model for Pair<'a> {
+    ghost use Rattle.fragments.specs.Pairs.{Pair, pair_of};
+
+    ghost Value = { Pair };
+
+    ghost view = { λ p. pair_of p.row.now p.words.now p.bytes.now };
 }
 
-// The words behind a pair's.
-pub fn next_words<'a>(row: &[u32], words: &'a [u32]) -> &'a [u32]
-    ensures { result.now ≡ drop (counted true row.now) words.now }
-{
-    slices::tail(words, directory::counted_before(row, true, 27))
-}
-
-// The bytes behind a pair's.
-pub fn next_bytes<'a>(row: &[u32], bytes: &'a [u8]) -> &'a [u8]
-    ensures { result.now ≡ drop (counted false row.now) bytes.now }
-{
-    slices::tail(bytes, directory::counted_before(row, false, 27))
-}
-
-// The row of the pair of a number.
-pub fn row_at(directory: &[u32], number: usize) -> &[u32]
-    ensures { (words bytes : List ℕ) → result.now ≡ (pair_at number directory.now words bytes).row }
-{
-    let mut row = directory;
-    let mut n = number;
-    while 0 < n {
-        let next = next_row(row);
-        row = next;
-        n -= 1;
+impl<'a> Pair<'a> {
+    // The token list of a side.
+    pub fn list(&self, side: Side) -> &'a [u32]
+        ensures { result.now ≡ list_of side self.now }
+    {
+        part_of(self.row, Slice::Words, self.words, 4 * side as usize)
     }
-    row
-}
 
-// Its words.
-pub fn words_at<'a>(directory: &[u32], words: &'a [u32], number: usize) -> &'a [u32]
-    ensures by_index { (bytes : List ℕ) → result.now ≡ (pair_at number directory.now words.now bytes).words }
-    ensures result_in_bounds { length result.now ≤ length words.now }
-{
-    let mut row = directory;
-    let mut w = words;
-    let mut n = number;
-    while 0 < n {
-        let next = next_words(row, w);
-        let behind = next_row(row);
-        w = next;
-        row = behind;
-        n -= 1;
+    // The text of a side's list.
+    pub fn text(&self, side: Side) -> &'a [u8]
+        ensures { result.now ≡ text_of side self.now }
+    {
+        part_of(self.row, Slice::Bytes, self.bytes, 4 * side as usize + 1)
     }
-    w
-}
 
-// Its bytes.
-pub fn bytes_at<'a>(directory: &[u32], bytes: &'a [u8], number: usize) -> &'a [u8]
-    ensures { (words : List ℕ) → result.now ≡ (pair_at number directory.now words bytes.now).bytes }
-{
-    let mut row = directory;
-    let mut b = bytes;
-    let mut n = number;
-    while 0 < n {
-        let next = next_bytes(row, b);
-        let behind = next_row(row);
-        b = next;
-        row = behind;
-        n -= 1;
+    // The code that a side's trees were parsed from.
+    pub fn code(&self, side: Side) -> &'a [u8]
+        ensures { result.now ≡ code_of side self.now }
+    {
+        part_of(self.row, Slice::Bytes, self.bytes, 4 * side as usize + 2)
     }
-    b
+
+    // Whether a side's list is given; the pattern's always is.
+    pub fn is_given(&self, side: Side) -> bool
+        ensures { result ≡ is_given side self.now }
+    {
+        match side {
+            Side::Pattern => true,
+            Side::Template => directory::entry(self.row, 3) != 0,
+        }
+    }
+
+    // The tree of a form on a side; without words it is absent.
+    pub fn tree(&self, side: Side, form: Form) -> &'a [u32]
+        ensures { result.now ≡ tree_of side form self.now }
+    {
+        let k = 4 * form as usize + 2 * side as usize + 7;
+        part_of(self.row, Slice::Words, self.words, k)
+    }
+
+    // Whether that tree is there.
+    pub fn is_present(&self, side: Side, form: Form) -> bool
+        ensures { result ≡ is_present side form self.now }
+    {
+        !self.tree(side, form).is_empty()
+    }
+
+    // The facts of that tree.
+    pub fn facts(&self, side: Side, form: Form) -> &'a [u32]
+        ensures { result.now ≡ facts_of side form self.now }
+    {
+        let k = 4 * form as usize + 2 * side as usize + 8;
+        part_of(self.row, Slice::Words, self.words, k)
+    }
+
+    // The pair behind this one.
+    fn next(&self) -> Pair<'a>
+        ensures pair { result ≡ next_pair self.now }
+        ensures within { length result.words ≤ length self.now.words }
+    {
+        let words = Slice::Words.counted_before(self.row, ROW_LEN);
+        let bytes = Slice::Bytes.counted_before(self.row, ROW_LEN);
+        Pair {
+            row: slices::tail(self.row, ROW_LEN),
+            words: slices::tail(self.words, words),
+            bytes: slices::tail(self.bytes, bytes),
+        }
+    }
 }
 
-// The token list of a side: 0 the pattern's, 1 the template's.
-pub fn list<'a>(row: &[u32], words: &'a [u32], side: usize) -> &'a [u32]
-    requires { side ≤ 1 }
-    ensures { result.now ≡ list_of side (in_words row.now words.now) }
-{
-    word_part(row, words, 4 * side)
+// All pairs: the directory, and all words and bytes.
+#[derive(Drop)]
+pub struct Pairs<'a> {
+    directory: &'a [u32],
+    words: &'a [u32],
+    bytes: &'a [u8],
 }
 
-// The text of a side's list.
-pub fn text<'a>(row: &[u32], bytes: &'a [u8], side: usize) -> &'a [u8]
-    requires { side ≤ 1 }
-    ensures { result.now ≡ text_of side (in_bytes row.now bytes.now) }
-{
-    byte_part(row, bytes, 4 * side + 1)
+impl<'a> Model for Pairs<'a> {
+    ghost use Rattle.fragments.specs.Pairs.{Pairs, pairs_of};
+
+    ghost Value = { Pairs };
+
+    ghost view = { λ ps. pairs_of ps.directory.now ps.words.now ps.bytes.now };
 }
 
-// The code that a side's trees were parsed from.
-pub fn code<'a>(row: &[u32], bytes: &'a [u8], side: usize) -> &'a [u8]
-    requires { side ≤ 1 }
-    ensures { result.now ≡ code_of side (in_bytes row.now bytes.now) }
-{
-    byte_part(row, bytes, 4 * side + 2)
+impl<'a> Pairs<'a> {
+    pub fn new(directory: &'a [u32], words: &'a [u32], bytes: &'a [u8]) -> Pairs<'a>
+        ensures { result ≡ pairs_of directory.now words.now bytes.now }
+    {
+        Pairs {
+            directory,
+            words,
+            bytes,
+        }
+    }
+
+    // How many rows there are.
+    pub fn len(&self) -> usize
+        ensures count { result ≡ row_count self.now.directory }
+        ensures few { result < 2 ^ 59 }
+    {
+        self.directory.len() / ROW_LEN
+    }
+
+    // Whether the directory is well-formed for the words and bytes beside it.
+    pub fn is_well_formed(&self) -> bool
+        ensures { result ≡ is_directory self.now.directory self.now.words self.now.bytes }
+    {
+        directory::is_directory(self.directory, self.words, self.bytes)
+    }
+
+    fn first(&self) -> Pair<'a>
+        ensures { result ≡ first_pair self.now }
+    {
+        Pair {
+            row: self.directory,
+            words: self.words,
+            bytes: self.bytes,
+        }
+    }
+
+    // The pair of a number.
+    pub fn at(&self, number: usize) -> Pair<'a>
+        ensures pair { result ≡ pair_at number self.now }
+        ensures within { length result.words ≤ length self.now.words }
+    {
+        let mut pair = self.first();
+        for passed in 0..number {
+            pair = pair.next();
+        }
+        pair
+    }
+
+    pub fn iter(&self) -> Iter<'a>
+        ensures pairs { result ≡ pairs_in self.now }
+        ensures few { length result < 2 ^ 59 }
+    {
+        Iter {
+            left: self.len(),
+            pair: self.first(),
+        }
+    }
 }
 
-// Whether a side's list is given; the pattern's always is.
-pub fn is_given(row: &[u32], side: usize) -> bool
-    ensures { result ≡ is_given side (in_words row.now []) }
-{
-    (side == 0) | (directory::entry(row, 3) != 0)
+// The pairs that are left, of those in turn.
+#[derive(Drop)]
+pub struct Iter<'a> {
+    left: usize,
+    pair: Pair<'a>,
 }
 
-// The tree of a form on a side; without words it is absent.
-pub fn tree<'a>(row: &[u32], words: &'a [u32], side: usize, form: usize) -> &'a [u32]
-    requires { (side ≤ 1) × (form ≤ 4) }
-    ensures { result.now ≡ tree_of side form (in_words row.now words.now) }
-{
-    word_part(row, words, 4 * form + 2 * side + 7)
+impl<'a> Model for Iter<'a> {
+    ghost use Rattle.std.specs.Prelude.{List};
+    ghost use Rattle.fragments.specs.Pairs.{Pair, pairs_from};
+
+    ghost Value = { List Pair };
+
+    ghost view = { λ it. pairs_from it.left it.pair };
 }
 
-// The facts of that tree.
-pub fn facts<'a>(row: &[u32], words: &'a [u32], side: usize, form: usize) -> &'a [u32]
-    requires { (side ≤ 1) × (form ≤ 4) }
-    ensures { result.now ≡ facts_of side form (in_words row.now words.now) }
-{
-    word_part(row, words, 4 * form + 2 * side + 8)
+impl<'a> Iterator for Iter<'a> {
+    type Item = Pair<'a>;
+
+    ghost next_gives = { YieldsFirst (λ it. it) };
+
+    ghost remaining = { item_count (λ it. it) };
+
+    fn next(&mut self) -> Option<Pair<'a>> {
+        if self.left == 0 {
+            return None;
+        }
+        self.left -= 1;
+        let behind = self.pair.next();
+        Some(mem::replace(&mut self.pair, behind))
+    }
+}
+
+impl<'a, 'b> IntoIterator for &'b Pairs<'a> {
+    type Item = Pair<'a>;
+
+    type IntoIter = Iter<'a>;
+
+    ghost into_iter_gives = { λ pairs it. (it ≡ pairs_in pairs.now) × (length it < 2 ^ 59) };
+
+    fn into_iter(self) -> Iter<'a> {
+        self.iter()
+    }
 }

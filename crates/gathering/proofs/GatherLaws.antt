@@ -1,81 +1,68 @@
--- Rows and links gathered key by key: what is told stays told, and what is not of a rule stays as it is.
+-- Rows gathered key by key: what is told stays told, and what is not of a rule stays as it is.
 -- Assumes nothing.
 use mathlib.Core.Path.{◌≡◌, refl, ◌∙◌}
-use mathlib.Core.List.{List}
-use Prim.Native.Nat.{ℕ, ◌+◌, ◌*◌, ◌/◌, ◌%◌, ◌<◌}
+use mathlib.Core.Bool.{true}
+use mathlib.Core.List.{List, []}
+use Prim.Native.Nat.{ℕ, ◌+◌, ◌/◌, ◌%◌, ◌<◌, ◌≤◌}
 use native.Mathlib.Omega.{arith}
-use lib.ListN.{length, get_or}
-use Rattle.words.proofs.TestLaws.{same_or, low_or}
-use Rattle.captures.specs.Attempts.{Attempt, failed, matched}
-use Rattle.fragments.specs.Pairs.{pair_at}
+use lib.ListN.{length, get_or, set}
+use lib.Seq.{get_or-set_same, get_or-set_other}
+use Rattle.std.proofs.Common.{Option, Some, None, option_map}
+use Rattle.words.specs.declared.texts.Range.{Range}
+use Rattle.words.proofs.TestLaws.{same_or}
+use Rattle.syntax.proofs.FormedLaws.{formed_is}
+use Rattle.captures.specs.Attempts.{Attempt}
+use Rattle.captures.specs.declared.State.{State}
+use Rattle.captures.specs.Effects.{nothing, Gives}
+use Rattle.candidates.proofs.CandidateLaws.{node_below}
+use Rattle.matcher.specs.FileFacts.{module_of}
+use Rattle.trees.specs.declared.File.{File as Accepted}
 use Rattle.rules.specs.declared.numbering.Rule.{Rule}
-use Rattle.rules.specs.declared.numbering.Found.TheVariants.{At}
-use Rattle.checks.specs.declared.Restriction.{Restriction}
-use Rattle.checks.specs.Given.{File, Rules, found_rule}
+use Rattle.rules.specs.Numbering.{rules}
+use Rattle.rules.proofs.RuleLaws.{rule_there}
+use Rattle.fragments.specs.Pairs.{pairs_in}
+use Rattle.rule_paths.specs.Needs.{PairedRule, paired}
+use Rattle.checks.specs.declared.Rules.{Rules}
+use Rattle.checks.specs.Given.{File, file_in, found_rule, is_node_of}
+use Rattle.parses.specs.Parses.{Parse}
+use Rattle.nester.specs.declared.Row.{Row}
+use Rattle.nester.specs.Rows.{no_row}
 use Rattle.rule_match.specs.RuleMatch.{rule_match, attempt_of}
-use Rattle.match_rows.specs.Told.{StateOf, RowOf, LinkOf, Told}
-use Rattle.match_rows.specs.Parts.{SamePart, SameBut}
-use Rattle.gathering.specs.Gathered.{Same, Gathers}
-use Rattle.match_rows.proofs.TableLaws.{part-before, part-behind, part_then}
-use Rattle.match_rows.proofs.RowLaws.{binding-kept}
+use Rattle.rule_match.proofs.MatchLaws.{found_gives}
+use Rattle.job_checks.specs.Checks.{Job, candidates_in, rule_count}
+use Rattle.job_checks.specs.Checked.{Checked}
+use Rattle.match_rows.specs.Told.{row_of, Told}
+use Rattle.gathering.specs.Gathered.{AreNodes, AreBelow, Gathers, Gathered}
+use Rattle.gathering.proofs.MatchLaws.{keys_named}
 
--- ---- a row and a link that are the same tell the same
+-- ---- one candidate
 
-module _ (l l' : List ℕ) (i : ℕ) where
-  state_kept : (a : Attempt) → SamePart (i * 44) 44 l l' → StateOf a l i → StateOf a l' i
-  state_kept failed s t = s 2 (omega arith) ∙ t
-  state_kept (matched es) s t = (s 2 (omega arith) ∙ t.0, λ slot h. binding-kept l l' i slot h s ∙ t.1 slot h)
+-- a node's number is below that of all that a tree may have
+pub node_low : (file : Accepted) (node : ℕ) → is_node_of (file_in file) node ≡ true → node < 16384
+node_low file node h =
+    let w = formed_is file.tree.words.now file.tree.formed in
+    omega (arith, node_below file.tree.words.now node w h, w.few)
 
-  row_kept : {a : Attempt} {n r : ℕ} → SamePart (i * 44) 44 l l' → RowOf a n r l i → RowOf a n r l' i
-  row_kept {a} s t = record {
-    node = s 0 (omega arith) ∙ t.node;
-    rule = s 1 (omega arith) ∙ t.rule;
-    slot = s 3 (omega arith) ∙ t.slot;
-    state = state_kept a s t.state;
-  }
-
-  link_kept : {a : Attempt} {m : ℕ} → SamePart (3 * i) 3 l l' → LinkOf a m l i → LinkOf a m l' i
-  link_kept s t = record { fresh = s 0 (omega arith) ∙ t.fresh; noted = s 1 (omega arith) ∙ t.noted; «module» = s 2 (omega arith) ∙ t.«module» }
-
-module _ (attempt : ℕ → ℕ → Attempt) (modules : ℕ → ℕ) (keys : List ℕ) where
-  pub told_kept : (r l r' l' : List ℕ) (i : ℕ) → Same r l r' l' i → Told attempt modules keys r l i → Told attempt modules keys r' l' i
-  told_kept r l r' l' i s t = (row_kept r r' i s.0 t.0, link_kept l l' i s.1 t.1)
-
--- ---- other rows and links than those that are set
-
-same_then : (a b a' b' a'' b'' : List ℕ) (i : ℕ) → Same a b a' b' i → Same a' b' a'' b'' i → Same a b a'' b'' i
-same_then a b a' b' a'' b'' i s t = (part_then (i * 44) 44 a a' a'' s.0 t.0, part_then (3 * i) 3 b b' b'' s.1 t.1)
-
-abbrev pub SetOnly : ℕ → List ℕ → List ℕ → List ℕ → List ℕ → Type 0
-SetOnly k r l r' l' = SameBut (k * 44) 44 r r' × SameBut (3 * k) 3 l l'
-
-other-same : {r l r' l' : List ℕ} (k i : ℕ) → SetOnly k r l r' l' → (i ≡ k → ⊥) → Same r l r' l' i
-other-same k i s d =
-    low_or i k
-    (λ h. (part-before (i * 44) 44 s.0 (omega arith), part-before (3 * i) 3 s.1 (omega arith)))
-    (λ h. (part-behind (i * 44) 44 s.0 (omega arith), part-behind (3 * i) 3 s.1 (omega arith)))
+pub row_is : (q : Rules) (f : File) (range : Option Range) (node number m : ℕ) (x : PairedRule) (answer : Option State) (end : List ℕ) (row : Row)
+    → Some x ≡ option_map (paired q) (found_rule q number)
+    → Gives (rule_match x.pair x.rule f range node) nothing [] answer end
+    → ((a : Attempt) (e : List ℕ) → Gives a nothing [] answer e → row ≡ row_of node number m a)
+    → row ≡ row_of node number m (attempt_of q f range node number)
+row_is q f range node number m x answer end row e g right = right _ end (found_gives q f range node number [] x answer end e g)
 
 -- ---- key by key
 
-module _ (number : ℕ) (attempt : ℕ → ℕ → Attempt) (modules : ℕ → ℕ) (keys r l : List ℕ) where
-  pub gathers_none : Gathers number attempt modules 0 keys r l r l
-  gathers_none = record {
-    told = λ i h e. absurd (omega arith);
-    others = λ i d. (λ k h. refl, λ k h. refl);
-    later = λ i h. (λ k j. refl, λ k j. refl);
-  }
+module _ (number : ℕ) (attempt : ℕ → ℕ → Attempt) (modules : ℕ → ℕ) (keys : List ℕ) (rows : List Row) where
+  pub gathers_none : Gathers number attempt modules 0 keys rows rows
+  gathers_none = record { told = λ i h e. absurd (omega arith); others = λ i d. refl; later = λ i h. refl }
 
   -- no key is of this number
-  pub gathers_unnamed : ((i : ℕ) → i < length keys → get_or keys i 0 % 16 ≡ number → ⊥) → Gathers number attempt modules (length keys) keys r l r l
-  gathers_unnamed none = record {
-    told = λ i h e. absurd (none i h e);
-    others = λ i d. (λ k h. refl, λ k h. refl);
-    later = λ i h. (λ k j. refl, λ k j. refl);
-  }
+  pub gathers_unnamed : ((i : ℕ) → i < length keys → get_or keys i 0 % 16 ≡ number → ⊥) → Gathers number attempt modules (length keys) keys rows rows
+  gathers_unnamed none = record { told = λ i h e. absurd (none i h e); others = λ i d. refl; later = λ i h. refl }
 
-  module _ (n : ℕ) (r' l' : List ℕ) (so_far : Gathers number attempt modules n keys r l r' l') where
+  module _ (n : ℕ) (rows' : List Row) (so_far : Gathers number attempt modules n keys rows rows') where
     -- the key is of another rule
-    pub gathers_other : (get_or keys n 0 % 16 ≡ number → ⊥) → Gathers number attempt modules (n + 1) keys r l r' l'
+    pub gathers_other : (get_or keys n 0 % 16 ≡ number → ⊥) → Gathers number attempt modules (n + 1) keys rows rows'
     gathers_other d = record {
       told = λ i h e. same_or i n (λ q. absurd (d (rw q at e))) (λ q. so_far.told i (omega arith) e);
       others = so_far.others;
@@ -83,39 +70,57 @@ module _ (number : ℕ) (attempt : ℕ → ℕ → Attempt) (modules : ℕ → �
     }
 
     -- the key is of this one
-    module _ (r'' l'' : List ℕ) (only : SetOnly n r' l' r'' l'') where
-      pub gathers_more : get_or keys n 0 % 16 ≡ number → RowOf (attempt (get_or keys n 0 / 16) number) (get_or keys n 0 / 16) number r'' n
-          → LinkOf (attempt (get_or keys n 0 / 16) number) (modules (get_or keys n 0 / 16)) l'' n
-          → Gathers number attempt modules (n + 1) keys r l r'' l''
-      gathers_more e row link =
-          let t : Told attempt modules keys r'' l'' n = rw e (row, link) in record {
-            told = λ i h q.
-                same_or i n (λ w. rw w t)
-                (λ w. told_kept attempt modules keys r' l' r'' l'' i (other-same n i only w) (so_far.told i (omega arith) q));
-            others = λ i d. same_then r l r' l' r'' l'' i (so_far.others i d) (other-same n i only (λ w. d (rw w e)));
-            later = λ i h. same_then r l r' l' r'' l'' i (so_far.later i (omega arith)) (other-same n i only (λ w. omega arith));
-          }
+    pub gathers_more : (row : Row) → n < length rows' → get_or keys n 0 % 16 ≡ number
+        → row ≡ row_of (get_or keys n 0 / 16) number (modules (get_or keys n 0 / 16)) (attempt (get_or keys n 0 / 16) number)
+        → Gathers number attempt modules (n + 1) keys rows (set rows' n row)
+    gathers_more row l e t = record {
+      told = λ i h q.
+          same_or i n (λ w. rw (w, e) (get_or-set_same rows' n row no_row l ∙ t))
+          (λ w. get_or-set_other rows' n i row no_row w ∙ so_far.told i (omega arith) q);
+      others = λ i d. get_or-set_other rows' n i row no_row (λ w. d (rw w e)) ∙ so_far.others i d;
+      later = λ i h. get_or-set_other rows' n i row no_row (λ w. omega arith) ∙ so_far.later i (omega arith);
+    }
 
   -- all keys of one number more are told
-  pub told_more : (r' l' : List ℕ) → Gathers number attempt modules (length keys) keys r l r' l'
-      → ((i : ℕ) → i < length keys → get_or keys i 0 % 16 < number → Told attempt modules keys r l i)
-      → (i : ℕ) → i < length keys → get_or keys i 0 % 16 < number + 1 → Told attempt modules keys r' l' i
-  told_more r' l' g below i h k =
-      same_or (get_or keys i 0 % 16) number (λ e. g.told i h e)
-      (λ d. told_kept attempt modules keys r l r' l' i (g.others i d) (below i h (omega arith)))
+  pub told_more : (rows' : List Row) → Gathers number attempt modules (length keys) keys rows rows'
+      → ((i : ℕ) → i < length keys → get_or keys i 0 % 16 < number → Told attempt modules keys rows i)
+      → (i : ℕ) → i < length keys → get_or keys i 0 % 16 < number + 1 → Told attempt modules keys rows' i
+  told_more rows' g below i h k =
+      same_or (get_or keys i 0 % 16) number (λ e. g.told i h e) (λ d. g.others i d ∙ below i h (omega arith))
 
--- the attempts of a number are those of the rule that was found
-module _ (q : Rules) (f : File) (range : Restriction) (number : ℕ) (rule : Rule) (found : found_rule q number ≡ At rule) where
-  abbrev tried : ℕ → ℕ → Attempt
-  tried n r = rule_match (pair_at rule.pair q.directory q.words q.bytes) rule f range n
+-- ---- the keys of a job
 
-  tried_is : (n r : ℕ) → r ≡ number → tried n r ≡ attempt_of q f range n r
-  tried_is n r e = rw (e, found)
+module _ {j : Job} {q : Rules} {file : Accepted} {parses : List Parse} {keys : List ℕ} (checked : Checked j q file parses keys) where
+  keys_are : AreNodes (file_in file) keys × AreBelow (rule_count j) keys
+  keys_are = rw (← checked.file_is, ← checked.sorted) at (keys_named j.file (rule_count j) (candidates_in j) checked.few_rules checked.named)
 
-  pub gathers_found : {modules : ℕ → ℕ} {n : ℕ} {keys r l r' l' : List ℕ} → Gathers number tried modules n keys r l r' l'
-      → Gathers number (attempt_of q f range) modules n keys r l r' l'
-  gathers_found {keys = keys} g = record {
-    told = λ i h e. rw (tried_is (get_or keys i 0 / 16) (get_or keys i 0 % 16) e) at (g.told i h e);
-    others = g.others;
-    later = g.later;
-  }
+  pub key_node : (i : ℕ) → i < length keys → is_node_of (file_in file) (get_or keys i 0 / 16) ≡ true
+  key_node i h = keys_are.0 i h
+
+  count_is : length (rules (pairs_in q.pairs)) ≡ rule_count j
+  count_is = rw checked.rules_are refl
+
+  -- there are as many rules as are counted, which are few
+  pub few : (number : ℕ) → number < length (rules (pairs_in q.pairs)) → number < 16
+  few number h = omega (arith, h, checked.few_rules, count_is)
+
+  -- so where the rows of the keys of all rules are told, all are
+  pub told_all : (range : Option Range) (number : ℕ) (rows : List Row) → length (rules (pairs_in q.pairs)) ≤ number
+      → ((i : ℕ) → i < length keys → get_or keys i 0 % 16 < number → Told (attempt_of q (file_in file) range) (module_of file.facts) keys rows i)
+      → Gathered q (file_in file) range keys rows
+  told_all range number rows all told i h = told i h (omega (arith, keys_are.1 i h, count_is, all))
+
+  -- no key is of a rule that is not there
+  none_unfound : (number : ℕ) → None ≡ option_map (paired q) (found_rule q number) → (i : ℕ) → i < length keys → get_or keys i 0 % 16 ≡ number → ⊥
+  none_unfound number e i h k = go (found_rule q number) refl e
+    where
+      low : number < length (rules (pairs_in q.pairs))
+      low = omega (arith, k, keys_are.1 i h, count_is)
+
+      go : (r : Option Rule) → found_rule q number ≡ r → None ≡ option_map (paired q) r → ⊥
+      go None f m = rule_there _ number low f
+      go (Some r) f m = cc
+
+  pub gathers_unfound : (number : ℕ) (attempt : ℕ → ℕ → Attempt) (modules : ℕ → ℕ) (rows : List Row) → None ≡ option_map (paired q) (found_rule q number)
+      → Gathers number attempt modules (length keys) keys rows rows
+  gathers_unfound number attempt modules rows e = gathers_unnamed number attempt modules keys rows (none_unfound number e)

@@ -1,15 +1,16 @@
 -- The keys of a job's candidates name what they have to, and the matches that the rows of these keys show are those of the candidates, by
 -- element and then rule.
 -- Assumes nothing.
-use mathlib.Core.Path.{◌≡◌, refl, sym, ap, ◌∙◌}
+use mathlib.Core.Path.{◌≡◌, refl, ap, ◌∙◌}
 use mathlib.Core.Bool.{Bool, true, false, cond, not}
-use mathlib.Core.List.{List, [], ◌∷◌, ◌++◌, append_assoc, append-nil}
+use mathlib.Core.List.{List, [], ◌∷◌, append-nil}
 use Prim.Native.Nat.{ℕ, zero, suc, ◌+◌, ◌*◌, ◌/◌, ◌%◌, ◌<◌, ◌≤◌}
 use native.Mathlib.Omega.{arith}
 use lib.Dec.{ltb}
-use lib.ListN.{length, get_or, set, length-set, drop_of_length-le}
-use lib.Seq.{drop-cons}
+use lib.ListN.{length, get_or}
 use borrow.Author.Tests.{ltb-true, not-false}
+use Rattle.std.specs.List.{flat_map}
+use Rattle.std.proofs.lemmas.List.Concat.{flat_map-append}
 use Rattle.words.proofs.TestLaws.{same_or, and_both, or_neither}
 use Rattle.sorting.specs.Sorted.{sort, count}
 use Rattle.sorting.proofs.Laws.{count-sort, count-other, count-place}
@@ -17,18 +18,16 @@ use Rattle.syntax.specs.Trees.{Elems, size, tree}
 use Rattle.syntax.specs.Accessors.{element_at, node_in}
 use Rattle.syntax.specs.Checks.{WellFormed}
 use Rattle.syntax.proofs.Places.{tree-size}
-use Rattle.captures.specs.declared.Binding.{Binding}
-use Rattle.captures.specs.declared.State.{State}
-use Rattle.captures.specs.Attempts.{Event, Bound, Noted, Attempt, failed, matched, comments_of}
-use Rattle.captures.specs.Effects.{unbound, nothing, recorded_one, recorded}
+use Rattle.captures.specs.Attempts.{Attempt, failed, matched, comments_of}
 use Rattle.checks.specs.Given.{File, is_node_of}
 use Rattle.candidates.specs.Candidates.{Candidate, each, has, is_named, any_bad, is_twice, key_of, keys_of}
 use Rattle.candidates.proofs.CandidateLaws.{named_low}
 use Rattle.candidates.proofs.EachLaws.{each_same}
 use Rattle.candidates.proofs.SortedLaws.{sorted_keys}
+use Rattle.nester.specs.declared.Row.{Row}
 use Rattle.nester.specs.Matches.{Match, match_of, by_element}
-use Rattle.nester.specs.Rows.{matched_in, matches_in}
-use Rattle.match_rows.specs.Told.{RowOf, Told}
+use Rattle.nester.specs.Rows.{fresh, match_in, matches_in}
+use Rattle.match_rows.specs.Told.{row_of, Told}
 use Rattle.gathering.specs.Gathered.{AreNodes, AreBelow}
 
 -- ---- keys name nodes and rules
@@ -59,111 +58,61 @@ keys_named f rules cs few h = (λ i l. (one i l).0, λ i l. (one i l).1)
         let k = get_or (sort (keys_of cs)) i 0 in
         named_key (tree f.words) rules few k cs h (omega (arith, count-place (sort (keys_of cs)) i l, count-sort k (keys_of cs)))
 
--- ---- the match of a row
+-- ---- `each` and `flat_map`
 
-bindings_length : (es : List Event) (s : State) → length (recorded 0 es s).bindings ≡ length s.bindings
-unfolding recorded
-bindings_length [] s = refl
-bindings_length (Bound slot b ∷ es) s =
-    let n : length (set s.bindings slot b) ≡ length s.bindings = simp length-set in
-    bindings_length es (recorded_one 0 (Bound slot b) s) ∙ n
-bindings_length (Noted t ∷ es) s = bindings_length es (recorded_one 0 (Noted t) s)
-
--- eight bindings are those of the eight slots
-eight_are : (l : List Binding) (d : Binding) → length l ≡ 8
-    → get_or l 0 d ∷ get_or l 1 d ∷ get_or l 2 d ∷ get_or l 3 d ∷ get_or l 4 d ∷ get_or l 5 d ∷ get_or l 6 d ∷ get_or l 7 d ∷ [] ≡ l
-eight_are l d h =
-    sym (drop-cons l 0 d (omega arith)
-    ∙ rw (
-      drop-cons l 1 d (omega arith),
-      drop-cons l 2 d (omega arith),
-      drop-cons l 3 d (omega arith),
-      drop-cons l 4 d (omega arith),
-      drop-cons l 5 d (omega arith),
-      drop-cons l 6 d (omega arith),
-      drop-cons l 7 d (omega arith),
-      drop_of_length-le l {i = 8} (omega arith),
-    ))
-
-module _ (attempt : ℕ → ℕ → Attempt) (rows : List ℕ) (i n r : ℕ) where
-  shown : (a : Attempt) → attempt n r ≡ a → RowOf a n r rows i → matched_in (λ n r. comments_of (attempt n r)) rows i ≡ match_of n r a
-  unfolding each
-  shown failed e t = rw t.state
-  shown (matched es) e t =
-      let b = t.state.1 in
-      let bs = (recorded 0 es nothing).bindings in
-      rw (
-        t.state.0,
-        t.node,
-        t.rule,
-        e,
-        b 0 (omega arith),
-        b 1 (omega arith),
-        b 2 (omega arith),
-        b 3 (omega arith),
-        b 4 (omega arith),
-        b 5 (omega arith),
-        b 6 (omega arith),
-        b 7 (omega arith),
-        eight_are bs unbound (bindings_length es nothing),
-      )
-
--- ---- the matches of keys in turn
-
-unfoldable flat : {A : Type 0} → (ℕ → List A) → List ℕ → List A
-flat g [] = []
-flat g (k ∷ l) = g k ++ flat g l
-
-each_first : {A : Type 0} (n : ℕ) (f : ℕ → List A) → each (suc n) f ≡ f 0 ++ each n (λ i. f (suc i))
+flat-each : {A : Type 0} (g : ℕ → List A) (n : ℕ) (f : ℕ → List ℕ) → flat_map g (each n f) ≡ each n (λ i. flat_map g (f i))
 unfolding each
-each_first zero f = sym (append-nil (f 0))
-each_first (suc n) f = rw (each_first n f) (append_assoc (f 0) (each n (λ i. f (suc i))) (f (suc n)))
-
-each-key : {A : Type 0} (g : ℕ → List A) (l : List ℕ) → each (length l) (λ i. g (get_or l i 0)) ≡ flat g l
-unfolding each flat
-each-key g [] = refl
-each-key g (k ∷ l) = each_first (length l) (λ i. g (get_or (k ∷ l) i 0)) ∙ ap (λ (t : List _). g k ++ t) (each-key g l)
-
-flat_append : {A : Type 0} (g : ℕ → List A) (a b : List ℕ) → flat g (a ++ b) ≡ flat g a ++ flat g b
-unfolding flat
-flat_append g [] b = refl
-flat_append g (k ∷ a) b = rw (flat_append g a b) (sym (append_assoc (g k) (flat g a) (flat g b)))
-
-flat-each : {A : Type 0} (g : ℕ → List A) (n : ℕ) (f : ℕ → List ℕ) → flat g (each n f) ≡ each n (λ i. flat g (f i))
-unfolding each flat
 flat-each g zero f = refl
-flat-each g (suc n) f = flat_append g (each n f) (f n) ∙ rw (flat-each g n f)
+flat-each g (suc n) f = flat_map-append g (each n f) (f n) ∙ rw (flat-each g n f)
 
-flat_if : {A : Type 0} (g : ℕ → List A) (b : Bool) (k : ℕ) → flat g (cond b (k ∷ []) []) ≡ cond b (g k) []
-unfolding flat
+flat_if : {A : Type 0} (g : ℕ → List A) (b : Bool) (k : ℕ) → flat_map g (cond b (k ∷ []) []) ≡ cond b (g k) []
 flat_if g true k = append-nil (g k)
 flat_if g false k = refl
 
-module _ (words : List ℕ) (rules : ℕ) (attempt : ℕ → ℕ → Attempt) (few : rules ≤ 16) where
+module _ (attempt : ℕ → ℕ → Attempt) where
+  abbrev comments_at : ℕ → ℕ → List ℕ
+  comments_at n r = comments_of (attempt n r)
+
   abbrev match_at : ℕ → List Match
   match_at k = match_of (k / 16) (k % 16) (attempt (k / 16) (k % 16))
 
-  match_of_key : (n r : ℕ) → r < rules → match_at (n * 16 + r) ≡ match_of n r (attempt n r)
+  -- the match of a row
+  shown : (n r m : ℕ) (a : Attempt) → attempt n r ≡ a → fresh (row_of n r m a).state (match_in comments_at (row_of n r m a)) ≡ match_of n r a
+  shown n r m failed e = refl
+  shown n r m (matched es) e = rw e
+
+  -- the matches of the rows of keys are those of the keys in turn
+  shown_keys : (modules : ℕ → ℕ) (keys : List ℕ) (rows : List Row) → length rows ≡ length keys
+      → ((i : ℕ) → i < length keys → Told attempt modules keys rows i) → matches_in comments_at rows ≡ flat_map match_at keys
+  shown_keys modules [] [] l told = refl
+  shown_keys modules [] (row ∷ rows) l told = absurd (omega arith)
+  shown_keys modules (k ∷ keys) [] l told = absurd (omega arith)
+  shown_keys modules (k ∷ keys) (row ∷ rows) l told =
+      let t = told 0 (omega arith) in
+      rw (t, shown (k / 16) (k % 16) (modules (k / 16)) (attempt (k / 16) (k % 16)) refl, shown_keys modules keys rows (omega arith) (λ i h. told (suc i) (omega arith)))
+
+module _ (words : List ℕ) (rules : ℕ) (attempt : ℕ → ℕ → Attempt) (few : rules ≤ 16) where
+  match_of_key : (n r : ℕ) → r < rules → match_at attempt (n * 16 + r) ≡ match_of n r (attempt n r)
   match_of_key n r h =
       let a : (n * 16 + r) / 16 ≡ n = omega arith in let b : (n * 16 + r) % 16 ≡ r = omega arith in
       rw (a, b)
 
   -- the rows of the keys of candidates, all named and none twice, show the matches of the candidates
-  pub shown-matches : (modules : ℕ → ℕ) (cs : List Candidate) (keys rows links : List ℕ)
+  pub shown-matches : (modules : ℕ → ℕ) (cs : List Candidate) (keys : List ℕ) (rows : List Row)
       → WellFormed words → any_bad (tree words) rules cs ≡ false → is_twice cs ≡ false
-      → keys ≡ sort (keys_of cs) → ((i : ℕ) → i < length keys → Told attempt modules keys rows links i)
-      → matches_in (λ n r. comments_of (attempt n r)) rows (length keys) ≡ by_element (tree words) rules attempt (has cs)
+      → keys ≡ sort (keys_of cs) → length rows ≡ length keys → ((i : ℕ) → i < length keys → Told attempt modules keys rows i)
+      → matches_in (λ n r. comments_of (attempt n r)) rows ≡ by_element (tree words) rules attempt (has cs)
   unfolding by_element
-  shown-matches modules cs keys rows links w named once e told =
+  shown-matches modules cs keys rows w named once e long told =
       let s : length words / 3 ≡ size (tree words) = omega (arith, tree-size words w) in
       let pair : ℕ → ℕ → List Match = λ n r. cond (has cs n r) (match_of n r (attempt n r)) [] in
       let node : ℕ → List ℕ = λ n. each rules (λ r. cond (has cs n r) ((n * 16 + r) ∷ []) []) in
-      each_same _ (λ i. match_at (get_or keys i 0)) (length keys) (λ i h. shown attempt rows i _ _ _ refl (told i h).0)
-      ∙ each-key match_at keys
-      ∙ ap (flat match_at) (e ∙ sorted_keys rules few (length words / 3) cs (named_low words rules cs w named) once)
-      ∙ flat-each match_at (length words / 3) node
+      let at = match_at attempt in
+      shown_keys attempt modules keys rows long told
+      ∙ ap (flat_map at) (e ∙ sorted_keys rules few (length words / 3) cs (named_low words rules cs w named) once)
+      ∙ flat-each at (length words / 3) node
       ∙ each_same _ (λ n. each rules (pair n)) (length words / 3)
-      (λ n _. flat-each match_at rules _
+      (λ n _. flat-each at rules _
       ∙ each_same _ (pair n) rules
-      (λ r h. flat_if match_at (has cs n r) (n * 16 + r) ∙ ap (λ (m : List Match). cond (has cs n r) m []) (match_of_key n r h)))
+      (λ r h. flat_if at (has cs n r) (n * 16 + r) ∙ ap (λ (m : List Match). cond (has cs n r) m []) (match_of_key n r h)))
       ∙ rw s

@@ -1,294 +1,107 @@
-// The rows and links of all candidates: of one rule after the other, each made ready once.
+// The rows of all candidates: of one rule after the other, each made ready once.
 #![tactic(auto)]
 
-ghost use Rattle.std.specs.Prelude.{◌≡◌, true, false, map, ℕ, ◌+◌, ◌*◌, ◌%◌, ◌<◌, ◌≤◌, length, get_or};
-ghost use Rattle.errors.specs.Refusals.{ok};
-ghost use Rattle.fragments.specs.Pairs.{pairs, pair_of, pair_at};
-ghost use Rattle.rules.specs.declared.stages.Stage.TheVariants.{TreesWithFacts};
-ghost use Rattle.rules.specs.Forms.{any};
-ghost use Rattle.rules.specs.Stages.{stage_outcome};
-ghost use Rattle.rules.specs.Numbering.{rules};
-ghost use Rattle.rule_paths.specs.RulePaths.{pair_fails};
-ghost use Rattle.rule_paths.specs.Needs.{Passed, Left, AllRoomy};
-ghost use Rattle.matcher.specs.FileFacts.{FileOf, module_of};
-ghost use Rattle.checks.specs.Given.{rules_of, file_of, is_node_of};
-ghost use Rattle.rule_match.specs.RuleMatch.{rule_match, attempt_of};
-ghost use Rattle.preparing.specs.Ready.{Ready, MarksRoomy};
-ghost use Rattle.match_rows.specs.Told.{RowOf, LinkOf};
-ghost use Rattle.match_rows.specs.Parts.{SameBut};
-ghost use Rattle.gathering.specs.Gathered.{Gathers, AreNodes, AreBelow, HaveRoom, Gathered};
+ghost use Rattle.std.specs.Prelude.{◌≡◌, true, false, ℕ, Some, option_map, ◌%◌, ◌/◌, ◌<◌, length, get_or};
+ghost use Rattle.matcher.specs.FileFacts.{module_of};
+ghost use Rattle.checks.specs.Given.{file_in, found_rule, is_node_of};
+ghost use Rattle.rule_paths.specs.Needs.{paired};
+ghost use Rattle.rule_match.specs.RuleMatch.{attempt_of};
+ghost use Rattle.match_rows.specs.Told.{row_of};
+ghost use Rattle.gathering.specs.Gathered.{Gathers, Gathered};
 
-use checks::Restriction;
-use fragments::pairs;
-use matcher::marks::Context;
-use rule_match::Question;
+use job_checks::CheckedJob;
+use nester::Row;
+use preparing::{MatchTables, Prepared};
 use rules::numbering;
-use rules::numbering::{Found, Rule};
 
-// The row and the link of one candidate, with its rule made ready. Comments are not laid: there is no room for any.
-fn gather_one(
-    row: &[u32],
-    words: &[u32],
-    bytes: &[u8],
-    rule: Rule,
-    tree: &[u32],
-    text: &[u8],
-    facts: &[u32],
-    file_index: &[u64],
-    marks: &[u32],
-    paths: &[u32],
-    index: &[u64],
-    cx: Context,
-    question: Question,
-    k: usize,
-    rows: &mut [u32],
-    links: &mut [u32],
-)
-    requires form_bound { (rule.form ≤ 4) × Ready (pair_of row.now words.now bytes.now) rule marks.now paths.now index.now cx }
-    requires file_of { FileOf tree.now facts.now file_index.now × (is_node_of (file_of tree.now text.now facts.now) question.node ≡ true) }
-    requires node_bound { (question.node < 16384) × (question.rule < 16) × (k * 44 + 44 ≤ length rows.old) × (3 * k + 3 ≤ length links.old) }
-    ensures row_of { RowOf (rule_match (pair_of row.now words.now bytes.now) rule (file_of tree.now text.now facts.now) question.range question.node) question.node question.rule rows.new k }
-    ensures link_of { LinkOf (rule_match (pair_of row.now words.now bytes.now) rule (file_of tree.now text.now facts.now) question.range question.node) (module_of facts.now question.node) links.new k }
-    ensures same_but { SameBut (k * 44) 44 rows.old rows.new × SameBut (3 * k) 3 links.old links.new }
+// The row of one candidate, with its rule made ready. Comments are not laid: there is no room for any.
+#[tactic(auto, using(crate::proofs::GatherLaws::node_low, crate::proofs::GatherLaws::row_is))]
+fn gather_one<const N: usize>(
+    job: &CheckedJob<'_, N>,
+    prepared: &Prepared<'_, N>,
+    node: usize,
+    number: usize,
+) -> Row
+    requires ready { Some prepared.now ≡ option_map (paired job.now.rules) (found_rule job.now.rules number) }
+    requires is_node { is_node_of (file_in job.now.file) node ≡ true }
+    requires number_bound { number < 16 }
+    ensures { result ≡ row_of node number (module_of job.now.file.facts node) (attempt_of job.now.rules (file_in job.now.file) job.now.given.inputs.range node number) }
 {
-    let mut none = [0u8; 1];
-    let r = rule_match::match_ready(
-        row,
-        words,
-        bytes,
-        rule,
-        tree,
-        text,
-        facts,
-        file_index,
-        marks,
-        paths,
-        index,
-        cx,
-        question,
-        &mut none[..0],
+    let answer = rule_match::match_prepared(
+        prepared,
+        &job.file,
+        node,
+        job.given.inputs.range,
+        &mut [],
     );
-    match_rows::put_row(rows, k, question.node, question.rule, r);
-    match_rows::put_link(
-        links,
-        k,
-        r,
-        match_rows::module_of(facts, file_index, question.node),
-    );
+    match_rows::row_of(
+        node,
+        number,
+        answer,
+        match_rows::module_of(&job.file.facts, node),
+    )
 }
 
 // The candidates of one rule that was made ready.
-fn gather_ready(
-    row: &[u32],
-    words: &[u32],
-    bytes: &[u8],
-    rule: Rule,
-    tree: &[u32],
-    text: &[u8],
-    facts: &[u32],
-    file_index: &[u64],
-    marks: &[u32],
-    paths: &[u32],
-    index: &[u64],
-    cx: Context,
+#[tactic(auto, using(crate::proofs::GatherLaws::gathers_none, crate::proofs::GatherLaws::gathers_other, crate::proofs::GatherLaws::gathers_more))]
+fn gather_prepared<const N: usize>(
+    job: &CheckedJob<'_, N>,
+    prepared: &Prepared<'_, N>,
     number: usize,
-    range: Restriction,
-    keys: &[u64],
-    rows: &mut [u32],
-    links: &mut [u32],
+    rows: &mut [Row],
 )
-    requires form_bound { (rule.form ≤ 4) × Ready (pair_of row.now words.now bytes.now) rule marks.now paths.now index.now cx }
-    requires file_of { FileOf tree.now facts.now file_index.now × AreNodes (file_of tree.now text.now facts.now) keys.now }
-    requires number_bound { (number < 16) × HaveRoom keys.now rows.old links.old }
-    ensures { Gathers number (λ n _. rule_match (pair_of row.now words.now bytes.now) rule (file_of tree.now text.now facts.now) range n) (module_of facts.now) (length keys.now) keys.now rows.old links.old rows.new links.new }
+    requires ready { Some prepared.now ≡ option_map (paired job.now.rules) (found_rule job.now.rules number) }
+    requires number_bound { number < 16 }
+    requires rows_len { length rows.old ≡ length job.now.keys.now }
+    ensures { Gathers number (attempt_of job.now.rules (file_in job.now.file) job.now.given.inputs.range) (module_of job.now.file.facts) (length job.now.keys.now) job.now.keys.now rows.old rows.new }
 {
-    let mut i: usize = 0;
-    while i < keys.len() {
-        let key = keys[i];
+    for (place, &key) in job.keys.iter().enumerate() {
         if key % 16 == number as u64 {
-            let question = Question {
-                rule: number,
-                node: (key / 16) as usize,
-                range,
-            };
-            gather_one(
-                row, words, bytes, rule, tree, text, facts, file_index, marks, paths, index, cx,
-                question, i, rows, links,
-            );
+            rows[place] = gather_one(job, prepared, (key / 16) as usize, number);
         }
-        i += 1;
-    }
-}
-
-// The candidates of one rule that is left, of a pair whose rules resolve.
-fn gather_rule(
-    directory: &[u32],
-    words: &[u32],
-    bytes: &[u8],
-    rule: Rule,
-    tree: &[u32],
-    text: &[u8],
-    facts: &[u32],
-    file_index: &[u64],
-    number: usize,
-    range: Restriction,
-    keys: &[u64],
-    index: &mut [u64],
-    spare: &mut [u64],
-    paths: &mut [u32],
-    calls: &mut [u32],
-    marks: &mut [u32],
-    rows: &mut [u32],
-    links: &mut [u32],
-)
-    requires left { Left (pair_at rule.pair directory.now words.now bytes.now) rule × Passed (pair_at rule.pair directory.now words.now bytes.now) × AllRoomy words.now index.old spare.old paths.old calls.old }
-    requires marks_roomy { MarksRoomy words.now marks.old × FileOf tree.now facts.now file_index.now × AreNodes (file_of tree.now text.now facts.now) keys.now }
-    requires number_bound { (number < 16) × HaveRoom keys.now rows.old links.old }
-    ensures { Gathers number (λ n _. rule_match (pair_at rule.pair directory.now words.now bytes.now) rule (file_of tree.now text.now facts.now) range n) (module_of facts.now) (length keys.now) keys.now rows.old links.old rows.new links.new }
-{
-    let pair = rule.pair;
-    let row = pairs::row_at(directory, pair);
-    let w = pairs::words_at(directory, words, pair);
-    let b = pairs::bytes_at(directory, bytes, pair);
-    let form = rule.form;
-    let n = pairs::tree(row, w, 0, form).len() / 3 * 4;
-    let cx = preparing::prepare_rule(row, w, b, rule, index, spare, paths, calls, &mut marks[..n]);
-    gather_ready(
-        row,
-        w,
-        b,
-        rule,
-        tree,
-        text,
-        facts,
-        file_index,
-        &marks[..n],
-        paths,
-        index,
-        cx,
-        number,
-        range,
-        keys,
-        rows,
-        links,
-    );
-}
-
-// The candidates of the rule of a number, which is there.
-fn gather_found(
-    directory: &[u32],
-    words: &[u32],
-    bytes: &[u8],
-    fact_bytes: usize,
-    tree: &[u32],
-    text: &[u8],
-    facts: &[u32],
-    file_index: &[u64],
-    number: usize,
-    range: Restriction,
-    keys: &[u64],
-    index: &mut [u64],
-    spare: &mut [u64],
-    paths: &mut [u32],
-    calls: &mut [u32],
-    marks: &mut [u32],
-    rows: &mut [u32],
-    links: &mut [u32],
-)
-    requires bytes_value { (stage_outcome TreesWithFacts fact_bytes (pairs directory.now words.now bytes.now) ≡ ok) × (any (map pair_fails (pairs directory.now words.now bytes.now)) ≡ false) }
-    requires all_roomy { AllRoomy words.now index.old spare.old paths.old calls.old × MarksRoomy words.now marks.old × FileOf tree.now facts.now file_index.now }
-    requires are_nodes { AreNodes (file_of tree.now text.now facts.now) keys.now × HaveRoom keys.now rows.old links.old × (number < 16) × (number < length (rules (pairs directory.now words.now bytes.now))) }
-    ensures { Gathers number (attempt_of (rules_of directory.now words.now bytes.now fact_bytes) (file_of tree.now text.now facts.now) range) (module_of facts.now) (length keys.now) keys.now rows.old links.old rows.new links.new }
-{
-    match numbering::rule_at(directory, words, bytes, number) {
-        Found::NoSuchRule => {}
-        Found::At(rule) => gather_rule(
-            directory, words, bytes, rule, tree, text, facts, file_index, number, range, keys,
-            index, spare, paths, calls, marks, rows, links,
-        ),
     }
 }
 
 // Whether a key is of a rule's number.
 fn is_named(keys: &[u64], number: usize) -> bool
-    ensures { result ≡ false → (i : ℕ) → i < length keys.now → get_or keys.now i 0 % 16 ≡ number → ⊥ }
+    ensures { result ≡ false → (i : ℕ) → i < length keys.now → (get_or keys.now i 0 % 16 ≡ number → ⊥) }
 {
-    let mut i: usize = 0;
-    while i < keys.len() {
-        if keys[i] % 16 == number as u64 {
-            return true;
-        }
-        i += 1;
-    }
-    false
+    keys.iter().any(|key| key % 16 == number as u64)
 }
 
-// The same, unless there are none: then the rule is not made ready.
-fn gather_number(
-    directory: &[u32],
-    words: &[u32],
-    bytes: &[u8],
-    fact_bytes: usize,
-    tree: &[u32],
-    text: &[u8],
-    facts: &[u32],
-    file_index: &[u64],
+// The candidates of the rule of a number. A rule of which there are none is not made ready.
+#[tactic(auto, using(crate::proofs::GatherLaws::gathers_unnamed))]
+fn gather_number<const N: usize>(
+    job: &CheckedJob<'_, N>,
     number: usize,
-    range: Restriction,
-    keys: &[u64],
-    index: &mut [u64],
-    spare: &mut [u64],
-    paths: &mut [u32],
-    calls: &mut [u32],
-    marks: &mut [u32],
-    rows: &mut [u32],
-    links: &mut [u32],
+    tables: &mut MatchTables<N>,
+    rows: &mut [Row],
 )
-    requires bytes_value { (stage_outcome TreesWithFacts fact_bytes (pairs directory.now words.now bytes.now) ≡ ok) × (any (map pair_fails (pairs directory.now words.now bytes.now)) ≡ false) }
-    requires all_roomy { AllRoomy words.now index.old spare.old paths.old calls.old × MarksRoomy words.now marks.old × FileOf tree.now facts.now file_index.now }
-    requires are_nodes { AreNodes (file_of tree.now text.now facts.now) keys.now × HaveRoom keys.now rows.old links.old × (number < 16) × (number < length (rules (pairs directory.now words.now bytes.now))) }
-    ensures { Gathers number (attempt_of (rules_of directory.now words.now bytes.now fact_bytes) (file_of tree.now text.now facts.now) range) (module_of facts.now) (length keys.now) keys.now rows.old links.old rows.new links.new }
+    requires number_bound { number < 16 }
+    requires rows_len { length rows.old ≡ length job.now.keys.now }
+    ensures { Gathers number (attempt_of job.now.rules (file_in job.now.file) job.now.given.inputs.range) (module_of job.now.file.facts) (length job.now.keys.now) job.now.keys.now rows.old rows.new }
 {
-    if is_named(keys, number) {
-        gather_found(
-            directory, words, bytes, fact_bytes, tree, text, facts, file_index, number, range,
-            keys, index, spare, paths, calls, marks, rows, links,
-        );
+    if !is_named(job.keys, number) {
+        return;
     }
+    let Some(rule) = job.rules.rule(number) else {
+        return;
+    };
+    let prepared = Prepared::new(&rule, tables);
+    gather_prepared(job, &prepared, number, rows);
 }
 
-// The row and the link of each candidate, by keys of nodes and of the first rules.
-pub fn gather_all(
-    directory: &[u32],
-    words: &[u32],
-    bytes: &[u8],
-    fact_bytes: usize,
-    tree: &[u32],
-    text: &[u8],
-    facts: &[u32],
-    file_index: &[u64],
-    count: usize,
-    range: Restriction,
-    keys: &[u64],
-    index: &mut [u64],
-    spare: &mut [u64],
-    paths: &mut [u32],
-    calls: &mut [u32],
-    marks: &mut [u32],
-    rows: &mut [u32],
-    links: &mut [u32],
+// The row of each candidate of a job, by its key.
+#[tactic(auto, using(crate::proofs::GatherLaws::few, crate::proofs::GatherLaws::told_more))]
+pub fn gather_all<const N: usize>(
+    job: &CheckedJob<'_, N>,
+    tables: &mut MatchTables<N>,
+    rows: &mut [Row],
 )
-    requires bytes_value { (stage_outcome TreesWithFacts fact_bytes (pairs directory.now words.now bytes.now) ≡ ok) × (any (map pair_fails (pairs directory.now words.now bytes.now)) ≡ false) }
-    requires all_roomy { AllRoomy words.now index.old spare.old paths.old calls.old × MarksRoomy words.now marks.old × FileOf tree.now facts.now file_index.now }
-    requires are_nodes { AreNodes (file_of tree.now text.now facts.now) keys.now × AreBelow count keys.now × HaveRoom keys.now rows.old links.old × (count ≤ 16) × (count ≤ length (rules (pairs directory.now words.now bytes.now))) }
-    ensures { Gathered (rules_of directory.now words.now bytes.now fact_bytes) (file_of tree.now text.now facts.now) range keys.now rows.new links.new }
+    requires { length rows.old ≡ length job.now.keys.now }
+    ensures { Gathered job.now.rules (file_in job.now.file) job.now.given.inputs.range job.now.keys.now rows.new }
 {
-    let mut number: usize = 0;
-    while number < count {
-        gather_number(
-            directory, words, bytes, fact_bytes, tree, text, facts, file_index, number, range,
-            keys, index, spare, paths, calls, marks, rows, links,
-        );
-        number += 1;
+    for number in 0..numbering::count_rules(&job.rules.rules().pairs) {
+        gather_number(job, number, tables, rows);
     }
 }

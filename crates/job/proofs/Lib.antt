@@ -1,3 +1,2 @@
--- Laws of a job's checks and of its answer.
+-- Laws of a job's checks.
 mod CheckingLaws
-pub mod JobLaws

@@ -1,60 +1,29 @@
 // The checks of a job, in document 01's order: 1 to 15, 18 to 21, 17, 22, 24 to 28. The tables are lent.
-ghost use Rattle.std.specs.Prelude.{◌≡◌, ◌≤◌, ◌/◌, length};
-ghost use Rattle.errors.specs.Refusals.{ok};
-ghost use Rattle.rule_paths.specs.Needs.{AllRoomy};
-ghost use Rattle.checks.specs.Given.{file_of};
-ghost use Rattle.job_checks.specs.Checks.{job_of, job_outcome};
-ghost use Rattle.job_checks.specs.Checked.{Checked};
+ghost use Rattle.std.specs.Prelude.{◌≡◌, ◌≤◌, ◌/◌, length, IfOk};
+ghost use Rattle.trees.specs.Given.{outcome_of};
+ghost use Rattle.rule_paths.specs.Needs.{Roomy};
+ghost use Rattle.job_checks.specs.Checks.{job_in, job_outcome};
 
-use checks::Restriction;
 use errors::Refusal;
-use job_checks::check_asked;
-use resolved::check_and_resolve;
+use job_checks::{CheckedJob, GivenJob};
+use rule_paths::Tables;
 
-// All of them in turn. Where nothing is refused, the index of the file's facts and the keys of the candidates are there for what follows.
-pub fn check_job(
-    directory: &[u32],
-    words: &[u32],
-    bytes: &[u8],
-    fact_text: &[u8],
-    tree: &[u32],
-    text: &[u8],
-    facts: &[u32],
-    parses: &[u32],
-    parse_text: &[u8],
-    candidates: &[u32],
-    range: Restriction,
-    index: &mut [u64],
-    spare: &mut [u64],
-    paths: &mut [u32],
-    calls: &mut [u32],
-    file_index: &mut [u64],
-    keys: &mut [u64],
-    more: &mut [u64],
-) -> Result<(), Refusal>
-    requires all_roomy { AllRoomy words.now index.old spare.old paths.old calls.old }
-    requires facts_in_bounds { length facts.now / 4 ≤ 16383 → (length facts.now / 4 ≤ length file_index.old) × (length facts.now / 4 ≤ length spare.old) }
-    requires in_bounds { (1024 ≤ length keys.old) × (1024 ≤ length more.old) }
-    ensures value { result ≡ job_outcome (job_of directory.now words.now bytes.now fact_text.now (file_of tree.now text.now facts.now) parses.now parse_text.now candidates.now range) }
-    ensures checked { result ≡ ok → Checked (job_of directory.now words.now bytes.now fact_text.now (file_of tree.now text.now facts.now) parses.now parse_text.now candidates.now range) file_index.new keys.new }
+// All of them in turn, and the job that passed them.
+#[tactic(auto, using(crate::proofs::CheckingLaws::checks_refuse, crate::proofs::CheckingLaws::asked_decides))]
+pub fn check_job<'a, const N: usize>(
+    given: GivenJob<'a>,
+    tables: &mut Tables<N>,
+    index: &'a mut [u64],
+    keys: &'a mut [u64],
+) -> Result<CheckedJob<'a, N>, Refusal>
+    requires room { Roomy N given.inputs.words.now }
+    requires index_len { length given.inputs.file.facts.now / 4 ≤ 16383 → length given.inputs.file.facts.now / 4 ≤ length index.old }
+    requires keys_len { 1024 ≤ length keys.old }
+    ensures value { outcome_of result ≡ job_outcome (job_in given.entry) }
+    ensures given_is { IfOk result (λ job. job_in job.given ≡ job_in given.entry) }
 {
-    match check_and_resolve(
-        directory,
-        words,
-        bytes,
-        fact_text.len(),
-        tree,
-        text,
-        facts,
-        index,
-        spare,
-        paths,
-        calls,
-        file_index,
-    ) {
-        Ok(()) => check_asked(
-            directory, words, bytes, tree, parses, parse_text, candidates, range, keys, more,
-        ),
-        Err(r) => Err(r),
-    }
+    let rules = given.inputs.rules();
+    let accepted = resolved::check_and_resolve(rules, given.inputs.file, tables, index)?;
+    let asked = job_checks::check_asked(&given, accepted.file.tree, keys)?;
+    Ok(CheckedJob::new(given, accepted.rules, accepted.file, asked))
 }

@@ -6,7 +6,7 @@ use mathlib.Core.List.{List}
 use Prim.Native.Nat.{ℕ, ◌≤◌}
 use native.Mathlib.Omega.{arith}
 use lib.ListN.{length}
-use Rattle.std.proofs.Common.{Ok, Err}
+use Rattle.std.proofs.Common.{Result, Ok, Err}
 use Rattle.errors.specs.Refusals.{Outcome, ok}
 use Rattle.words.specs.Buffer.{used_of}
 use Rattle.words.proofs.BufferLaws.{used_small}
@@ -14,7 +14,7 @@ use Rattle.candidates.specs.Candidates.{has}
 use Rattle.nester.specs.Collections.{Collections}
 use Rattle.nester.proofs.Kept.{collections, kept_is}
 use Rattle.nester.proofs.Placing.{items_row}
-use Rattle.rendering.specs.Events.{Unbound, NoRoom, Asked, Out, fine, event, after}
+use Rattle.rendering.specs.Events.{Event, Unbound, NoRoom, Asked, after}
 use Rattle.rendering.specs.Texts.{rendered}
 use Rattle.edits.specs.declared.Edited.TheVariants.{Edits}
 use Rattle.edits.specs.Edits.{Edit, encode}
@@ -33,7 +33,7 @@ module _ (j : Job) where
   kept_so h = collections (tree_in j) (rule_count j) (attempt_in j) (has (candidates_in j)) (file-keeps j h).1
 
   -- the edits of an accepted job
-  listed_so : (room n : ℕ) → room ≤ 1048576 → (es : List Edit) → job_outcome j ≡ ok → edits_in j room ≡ fine es → length (encode es) ≡ n
+  listed_so : (room n : ℕ) → room ≤ 1048576 → (es : List Edit) → job_outcome j ≡ ok → edits_in j room ≡ Ok es → length (encode es) ≡ n
       → EditList j room n
   listed_so room n small es p q size =
       let f = file-keeps j p in
@@ -44,7 +44,7 @@ module _ (j : Job) where
       let short = list_fits (start_in j) (end_in j) (setting_of j) (tree_in j) (collection_in j) room es q in
       record {
         edits = es;
-        bytes = λ i. bytes_after (p i) (after (q i) λ es. fine (encode es));
+        bytes = λ i. bytes_after (p i) (after (q i) λ es. Ok (encode es));
         size = size;
         read = read_back es (length es) (omega arith) (rise_small es 0 (length j.file.text) r (omega arith) (omega arith));
         each = items_row (tree_in j) (rendered (setting_of j)) (collection_in j);
@@ -54,16 +54,16 @@ module _ (j : Job) where
         was = file_was es j.file.text r;
       }
 
-  edit_list : (room n : ℕ) → room ≤ 1048576 → job_answer j room ≡ Edits n → EditList j room n
+  edit_list : (room n : ℕ) → room ≤ 1048576 → job_answer j room ≡ Ok (Edits n) → EditList j room n
   edit_list room n small h = by (job_outcome j) refl (edits_in j room) refl h
     where
-      by : (o : Outcome) → job_outcome j ≡ o → (w : Out (List Edit)) → edits_in j room ≡ w
-          → answer_after o (after w λ es. fine (encode es)) ≡ Edits n → EditList j room n
-      by (Err r) p w q e = absurd (let z : ◌≡◌ {A = ℕ} 0 1 = cc in omega arith)
-      by (Ok tt) p (event Unbound) q e = absurd (let z : ◌≡◌ {A = ℕ} 0 1 = cc in omega arith)
-      by (Ok tt) p (event NoRoom) q e = absurd (let z : ◌≡◌ {A = ℕ} 0 1 = cc in omega arith)
-      by (Ok tt) p (event (Asked kind text)) q e = absurd (let z : ◌≡◌ {A = ℕ} 0 1 = cc in omega arith)
-      by (Ok tt) p (fine es) q e = listed_so room n small es p q (cc)
+      by : (o : Outcome) → job_outcome j ≡ o → (w : Result (List Edit) Event) → edits_in j room ≡ w
+          → answer_after o (after w λ es. Ok (encode es)) ≡ Ok (Edits n) → EditList j room n
+      by (Err r) p w q e = absurd cc
+      by (Ok tt) p (Err Unbound) q e = absurd cc
+      by (Ok tt) p (Err NoRoom) q e = absurd cc
+      by (Ok tt) p (Err (Asked kind text)) q e = absurd cc
+      by (Ok tt) p (Ok es) q e = listed_so room n small es p q (cc)
 
 -- THE THEOREM
 pub demand3 : (j : Job) → Demand3 j

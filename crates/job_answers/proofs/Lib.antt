@@ -2,4 +2,6 @@
 pub mod Order
 pub mod Files
 pub mod Lists
+pub mod Templates
+pub mod AnswerLaws
 pub mod Demand3

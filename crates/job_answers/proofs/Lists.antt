@@ -13,9 +13,10 @@ use Rattle.nester.specs.Places.{Item, items}
 use Rattle.nester.proofs.Lists.{All, Pairwise, all_map, all_zip}
 use Rattle.nester.proofs.Lines.{Laws}
 use Rattle.nester.proofs.Placing.{Known, Ahead, perm_all, items_row, row_known, items_ahead}
-use Rattle.rendering.specs.Events.{Out, fine, after, Text}
+use Rattle.std.proofs.Common.{Result, Ok, Err}
+use Rattle.rendering.specs.Events.{Event, after, Text}
 use Rattle.rendering.specs.Texts.{Setting, rendered}
-use Rattle.rendering.specs.Traces.{Trace, done, stopped, within, reach, rendered_trace}
+use Rattle.rendering.specs.Traces.{Trace, within, reach, rendered_trace}
 use Rattle.rendering.proofs.RoomLaws.{outcome, within-fits, within_full}
 use Rattle.rendering.proofs.Theorem.{items-within}
 use Rattle.edits.specs.Edits.{Edit, encode, write}
@@ -43,20 +44,20 @@ module _ (t : Elems) {n : ℕ} (laws : Laws t n) {T : Type 0} where
 
 -- ---- the room
 
-fits : (u : Trace) (room : ℕ) (bs : List ℕ) → within u room ≡ fine bs → length bs ≤ room
+fits : (u : Trace) (room : ℕ) (bs : List ℕ) → within u room ≡ Ok bs → length bs ≤ room
 fits u room bs h =
-    low_or room (reach u) (λ l. absurd (let e = sym (within_full u room l) ∙ h in let z : ◌≡◌ {A = ℕ} 0 1 = cc in omega arith))
+    low_or room (reach u) (λ l. absurd (let e = sym (within_full u room l) ∙ h in cc))
     (λ l. by u l (sym (within-fits u room l) ∙ h))
   where
-    by : (u : Trace) → reach u ≤ room → outcome u ≡ fine bs → length bs ≤ room
-    by (done xs) l e = let z : xs ≡ bs = cc in rw (← z) l
-    by (stopped n v) l e = absurd (let z : ◌≡◌ {A = ℕ} 0 1 = cc in omega arith)
+    by : (u : Trace) → reach u ≤ room → outcome u ≡ Ok bs → length bs ≤ room
+    by (Ok xs) l e = let z : xs ≡ bs = cc in rw (← z) l
+    by (Err s) l e = absurd cc
 
 pub list_fits : (start_of end_of : ℕ → ℕ) (S : Setting) (t : Elems) (c : Nest) (room : ℕ) (es : List Edit)
-    → write start_of end_of room (items t (rendered S) c) ≡ fine es → length (encode es) ≤ room
+    → write start_of end_of room (items t (rendered S) c) ≡ Ok es → length (encode es) ≤ room
 list_fits start_of end_of S t c room es h =
     let l = items t (rendered_trace S) c in
     fits (list_trace start_of end_of l) room (encode es)
     (sym (write-within start_of end_of l room)
-    ∙ ap (λ (o : Out (List Edit)). after o λ es. fine (encode es))
+    ∙ ap (λ (o : Result (List Edit) Event). after o λ es. Ok (encode es))
     (ap (λ (xs : List (Item Text)). write start_of end_of room xs) (sym (items-within S t c)) ∙ h))

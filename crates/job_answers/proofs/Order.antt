@@ -11,7 +11,8 @@ use Rattle.candidates.proofs.CandidateLaws.{length_candidates}
 use Rattle.nester.specs.Matches.{matches}
 use Rattle.nester.specs.Nest.{none, nest}
 use Rattle.nester.specs.Places.{items}
-use Rattle.rendering.specs.Events.{fine, after}
+use Rattle.std.proofs.Common.{Ok}
+use Rattle.rendering.specs.Events.{after}
 use Rattle.rendering.specs.Texts.{rendered}
 use Rattle.edits.specs.Edits.{encode, write}
 use Rattle.job_checks.specs.Checks.{Job, tree_in, candidates_in, rule_count, job_outcome}
@@ -22,9 +23,7 @@ use Rattle.job_answers.specs.Demand3.{Alike}
 -- the job with other candidates
 abbrev with : Job → List ℕ → Job
 with j cs = record {
-  directory = j.directory;
-  words = j.words;
-  bytes = j.bytes;
+  pairs = j.pairs;
   fact_text = j.fact_text;
   file = j.file;
   parses = j.parses;
@@ -45,14 +44,12 @@ module _ (j : Job) (cs : List ℕ) (p : Perm (candidates_in j) (candidates_of cs
       ap
       (λ (s : Pairs).
       after (write (start_in j) (end_in j) room
-      (items (tree_in j) (rendered (setting_of j)) (nest (tree_in j) (matches (tree_in j) (rule_count j) (attempt_in j) s) none))) λ es. fine (encode es))
+      (items (tree_in j) (rendered (setting_of j)) (nest (tree_in j) (matches (tree_in j) (rule_count j) (attempt_in j) s) none))) λ es. Ok (encode es))
       (fun_ext λ n. fun_ext λ r. perm_has p n r)
 
 alike_is : (j k : Job) → Alike j k → with j k.candidates ≡ k
 alike_is j k a = λ i. record {
-  directory = a.directory i;
-  words = a.words i;
-  bytes = a.bytes i;
+  pairs = a.pairs i;
   fact_text = a.fact_text i;
   file = a.file i;
   parses = a.parses i;

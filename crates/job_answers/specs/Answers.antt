@@ -3,15 +3,14 @@
 -- all 0, success leaves 0 after the result, and bytes beyond never change"; "Asked gives kind and length, and the buffer holds that text, then
 -- 0".
 -- Assumes nothing.
-use Rattle.std.specs.Prelude.{ℕ, List, [], length}
-use Rattle.std.specs.Prelude.{Ok, Err}
+use Rattle.std.specs.Prelude.{ℕ, List, [], length, Result, Ok, Err}
+use Rattle.errors.specs.declared.Refusal.{Refusal}
 use Rattle.errors.specs.Refusals.{Outcome}
 use Rattle.words.specs.Buffer.{used_of, filled}
 use Rattle.nester.specs.Places.{Item, items}
-use Rattle.rendering.specs.Events.{Out, fine, after, Text}
+use Rattle.rendering.specs.Events.{Event, after, Text}
 use Rattle.rendering.specs.Texts.{rendered}
 use Rattle.edits.specs.declared.Edited.{Edited}
-use Rattle.edits.specs.declared.Edited.TheVariants as edited
 use Rattle.edits.specs.Edits.{Edit, encode, write}
 use Rattle.edits.specs.Answers.{answer_of, bytes_of}
 use Rattle.job_checks.specs.Checks.{Job, tree_in, job_outcome}
@@ -22,23 +21,23 @@ abbrev pub items_in : Job → List (Item Text)
 items_in j = items (tree_in j) (rendered (setting_of j)) (collection_in j)
 
 -- the edits in so much room, or the event that ends them; and the list's bytes
-abbrev pub edits_in : Job → ℕ → Out (List Edit)
+abbrev pub edits_in : Job → ℕ → Result (List Edit) Event
 edits_in j room = write (start_in j) (end_in j) room (items_in j)
 
-abbrev pub list_in : Job → ℕ → Out (List ℕ)
-list_in j room = after (edits_in j room) λ es. fine (encode es)
+abbrev pub list_in : Job → ℕ → Result (List ℕ) Event
+list_in j room = after (edits_in j room) λ es. Ok (encode es)
 
 -- a check that refuses comes before all that
-abbrev pub answer_after : Outcome → Out (List ℕ) → Edited
-answer_after (Err r) list = edited.Refused r
+abbrev pub answer_after : Outcome → Result (List ℕ) Event → Result Edited Refusal
+answer_after (Err r) list = Err r
 answer_after (Ok tt) list = answer_of list
 
-abbrev pub bytes_after : Outcome → Out (List ℕ) → List ℕ
+abbrev pub bytes_after : Outcome → Result (List ℕ) Event → List ℕ
 bytes_after (Err r) list = []
 bytes_after (Ok tt) list = bytes_of list
 
 -- THE ANSWER in so much room, the bytes that it leaves there, and the whole buffer
-abbrev pub job_answer : Job → ℕ → Edited
+abbrev pub job_answer : Job → ℕ → Result Edited Refusal
 job_answer j room = answer_after (job_outcome j) (list_in j room)
 
 abbrev pub job_bytes : Job → ℕ → List ℕ

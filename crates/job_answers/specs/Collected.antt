@@ -5,7 +5,7 @@ use Rattle.std.specs.Prelude.{ℕ, List}
 use Rattle.captures.specs.Attempts.{Attempt}
 use Rattle.matcher.specs.FileFacts.{module_of}
 use Rattle.checks.specs.Given.{found_rule}
-use Rattle.rule_match.specs.RuleMatch.{found_match}
+use Rattle.rule_match.specs.RuleMatch.{attempt_of}
 use Rattle.parses.specs.Parses.{parses_of}
 use Rattle.candidates.specs.Candidates.{has}
 use Rattle.nester.specs.Matches.{Match, matches}
@@ -16,7 +16,7 @@ use Rattle.job_checks.specs.Checks.{Job, rules_in, tree_in, candidates_in, rule_
 
 -- "A match is a candidate that `get_match` accepts"
 abbrev pub attempt_in : Job → ℕ → ℕ → Attempt
-attempt_in j n r = found_match (rules_in j) j.file (found_rule (rules_in j) r) j.range n
+attempt_in j = attempt_of (rules_in j) j.file j.range
 
 abbrev pub matches_in : Job → List Match
 matches_in j = matches (tree_in j) (rule_count j) (attempt_in j) (has (candidates_in j))

@@ -1,6 +1,6 @@
 -- Demand 3, of a job, as one statement. Its sentences stand above the fields that say them.
 -- Assumes nothing.
-use Rattle.std.specs.Prelude.{◌≡◌, ℕ, List, length}
+use Rattle.std.specs.Prelude.{◌≡◌, ℕ, List, length, Ok}
 use Rattle.errors.specs.Refusals.{ok}
 use Rattle.words.specs.Buffer.{used_of}
 use Rattle.candidates.specs.Candidates.{has, Perm}
@@ -17,9 +17,7 @@ use Rattle.job_answers.specs.Answers.{items_in, job_answer, job_bytes, buffer_af
 
 -- two jobs alike in all but the order of their candidates
 pub record Alike (j k : Job) : Type 0 where
-  pub directory : j.directory ≡ k.directory
-  pub words : j.words ≡ k.words
-  pub bytes : j.bytes ≡ k.bytes
+  pub pairs : j.pairs ≡ k.pairs
   pub fact_text : j.fact_text ≡ k.fact_text
   pub file : j.file ≡ k.file
   pub parses : j.parses ≡ k.parses
@@ -49,7 +47,7 @@ pub record Demand3 (j : Job) : Type 0 where
   pub any_order : (k : Job) → Alike j k → (out : List ℕ)
       → (job_answer j (used_of (length out)) ≡ job_answer k (used_of (length out))) × (buffer_after j out ≡ buffer_after k out)
   -- "Where that answer is an edit list"
-  pub where_edits : (out : List ℕ) (n : ℕ) → job_answer j (used_of (length out)) ≡ Edits n → EditList j (used_of (length out)) n
+  pub where_edits : (out : List ℕ) (n : ℕ) → job_answer j (used_of (length out)) ≡ Ok (Edits n) → EditList j (used_of (length out)) n
   -- its collections are those of all its candidates that match. "Whatever the matches, in each collection, outer or nested, no node equals
   -- another or is its ancestor. A match is dropped exactly when it meets a kept match, on its node or an ancestor, that has no captured range
   -- holding it."

@@ -1,8 +1,7 @@
 -- Checks that pass.
 -- Assumes nothing.
-use mathlib.Core.Path.{◌≡◌, refl}
-use mathlib.Core.Bool.{Bool, true, false}
-use mathlib.Core.List.{List, ◌∷◌}
+use Rattle.std.proofs.Common.{◌≡◌, refl, Bool, true, false, not, List, ◌∷◌}
+use mathlib.Core.Bool.{true≢false}
 use Rattle.errors.specs.Refusals.{ok}
 use Rattle.errors.specs.Refusals.{Check, first_of}
 use Rattle.errors.proofs.Laws.{refused_not}
@@ -15,3 +14,7 @@ first-both c cs h = by c.fails refl
     by : (b : Bool) → c.fails ≡ b → (c.fails ≡ false) × (first_of cs ≡ ok)
     by true e = absurd (refused_not {r = c.refusal} (rw e at h))
     by false e = (e, rw e at h)
+
+pub not_false : (b : Bool) → not b ≡ false → b ≡ true
+not_false true h = refl
+not_false false h = absurd (true≢false h)

@@ -1,4 +1,4 @@
 -- Laws of the definitions of specs/, for this crate and those above it.
 pub mod CheckLaws
-mod TemplateLaws
+pub mod TemplateLaws
 pub mod JobLaws

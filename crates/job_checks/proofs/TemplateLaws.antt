@@ -1,43 +1,41 @@
--- 27 by rows: where every pair has a rule, a rule is without template exactly where its pair's template is not given.
+-- 27 by pairs: where every pair has a rule, a rule is without template exactly where its pair's template is not given.
 -- Assumes nothing.
-use mathlib.Core.Path.{◌≡◌, refl, sym, ◌∙◌}
-use mathlib.Core.Bool.{Bool, true, false, cond, not, ◌&&◌, ◌||◌, true≢false}
-use mathlib.Core.List.{List, [], ◌∷◌, ◌++◌, map}
-use Prim.Native.Nat.{ℕ, zero, suc, ◌+◌, ◌-◌, ◌<◌}
-use native.Mathlib.Omega.{arith}
-use lib.Dec.{eqb}
-use lib.ListN.{length, drop}
+use Rattle.std.proofs.Common.{◌≡◌, refl, sym, ap, ◌∙◌, Bool, true, false, cond, not, ◌&&◌, ◌||◌, List, [], ◌∷◌, ◌++◌, map, ℕ, ◌+◌, ◌<◌, length, arith}
+use Rattle.std.specs.List.{list_any, list_all}
 use Rattle.errors.specs.Refusals.{ok}
-use Rattle.errors.specs.Refusals.{lowest}
-use Rattle.errors.proofs.Laws.{both_pass}
-use Rattle.fragments.specs.Directory.{counted}
-use Rattle.fragments.specs.Pairs.{Pair, pair_of, in_words, pairs_of, is_given, is_present, five}
+use Rattle.fragments.specs.declared.forms.Side.TheVariants as side
+use Rattle.fragments.specs.declared.forms.Form.{Form}
+use Rattle.fragments.specs.declared.forms.Form.TheVariants as form
+use Rattle.fragments.specs.Forms.{five}
+use Rattle.fragments.specs.Pairs.{Pair, is_given, is_present}
 use Rattle.rules.specs.declared.forms.TemplateTree.TheVariants.{Absent, Own, StandIn, Missing}
-use Rattle.rules.specs.declared.stages.Stage.TheVariants.{Forms}
 use Rattle.rules.specs.declared.numbering.Rule.{Rule}
-use Rattle.rules.specs.Forms.{template_tree, any, has_rule, has_path_rule, is_path_rule, is_rule, kept, forms_left}
-use Rattle.rules.specs.Numbering.{rule_of, rules_from}
+use Rattle.rules.specs.declared.stages.Stage.TheVariants.{Forms}
+use Rattle.rules.specs.Forms.{template_tree, has_rule, has_path_rule, is_left, passing, forms_left}
+use Rattle.rules.specs.Numbering.{rule_of, rules_from, rules}
 use Rattle.rules.specs.Stages.{forms_outcome, stage_outcome}
-use Rattle.rules.proofs.FormLaws.{left_paths, left-rules}
-use Rattle.rule_paths.proofs.FailLaws.{not_false}
+use Rattle.rules.proofs.StageLaws.{stage_both}
 use Rattle.job_checks.specs.Checks.{has_no_template, any_without_template}
-use Rattle.job_checks.proofs.CheckLaws.{first-both}
+use Rattle.job_checks.proofs.CheckLaws.{first-both, not_false}
 
 -- ---- the forms of a pair
 
 -- a pair that passed 17 has a form left
-some-kept : (n : ℕ) (bs : List Bool) → any bs ≡ true → 0 < length (kept n bs)
-unfolding any kept
-some-kept n [] h = absurd (true≢false (sym h))
-some-kept n (true ∷ bs) h = omega arith
-some-kept n (false ∷ bs) h = some-kept (n + 1) bs h
+pass_cons : (t : Form → Bool) (f : Form) (fs : List Form) → (list_any t fs ≡ true → 0 < length (passing t fs)) → (b : Bool) → t f ≡ b → list_any t (f ∷ fs) ≡ true → 0 < length (passing t (f ∷ fs))
+unfolding passing
+pass_cons t f fs on true e h = rw e (omega arith)
+pass_cons t f fs on false e h = rw e (on (rw e at h))
+
+some_pass : (t : Form → Bool) (fs : List Form) → list_any t fs ≡ true → 0 < length (passing t fs)
+some_pass t [] h = absurd (cc)
+some_pass t (f ∷ fs) h = pass_cons t f fs (some_pass t fs) (t f) refl h
 
 some_left : (p : Pair) → has_rule p ≡ true → 0 < length (forms_left p)
-some_left p h = by (has_path_rule p) refl
+some_left p h = some_pass (is_left p) (five (λ f. f)) (by (has_path_rule p) refl)
   where
-    by : (b : Bool) → has_path_rule p ≡ b → 0 < length (forms_left p)
-    by true e = rw (left_paths p e) (some-kept 0 (five (is_path_rule p)) e)
-    by false e = rw (left-rules p e) (some-kept 0 (five (is_rule p)) h)
+    by : (b : Bool) → has_path_rule p ≡ b → list_any (is_left p) (five (λ f. f)) ≡ true
+    by true e = rw e e
+    by false e = rw e h
 
 -- its rules are without template exactly where that is not given
 none_of : (g a b : Bool) → has_no_template (cond g (cond a Own (cond b StandIn Missing)) Absent) ≡ not g
@@ -46,49 +44,42 @@ none_of true false true = refl
 none_of true false false = refl
 none_of false a b = refl
 
-none-given : (p : Pair) (form : ℕ) → has_no_template (template_tree p form) ≡ not (is_given 1 p)
-none-given p form = none_of (is_given 1 p) (is_present 1 form p) (eqb form 0 && is_present 1 4 p)
+none_given : (p : Pair) (f : Form) → has_no_template (template_tree p f) ≡ not (is_given side.Template p)
+none_given p form.Expression = none_of (is_given side.Template p) (is_present side.Template form.Expression p) (is_present side.Template form.Statement p)
+none_given p form.Type = none_of (is_given side.Template p) (is_present side.Template form.Type p) false
+none_given p form.Item = none_of (is_given side.Template p) (is_present side.Template form.Item p) false
+none_given p form.Pattern = none_of (is_given side.Template p) (is_present side.Template form.Pattern p) false
+none_given p form.Statement = none_of (is_given side.Template p) (is_present side.Template form.Statement p) false
 
 -- rules that are alike before others
 or_again : (a b : Bool) → (a || (a || b)) ≡ (a || b)
 or_again true b = refl
 or_again false b = refl
 
-alike_before : (f : ℕ → Rule) (b : Bool) → ((n : ℕ) → has_no_template (f n).template ≡ b) → (l : List ℕ) (rs : List Rule)
+alike_before : (f : Form → Rule) (b : Bool) → ((x : Form) → has_no_template (f x).template ≡ b) → (l : List Form) (rs : List Rule)
     → 0 < length l → any_without_template (map f l ++ rs) ≡ (b || any_without_template rs)
-unfolding any
 alike_before f b e [] rs h = absurd (omega arith)
-alike_before f b e (n ∷ []) rs h = rw (e n)
-alike_before f b e (n ∷ (m ∷ l)) rs h = rw (e n, alike_before f b e (m ∷ l) rs (omega arith)) (or_again b (any_without_template rs))
+alike_before f b e (x ∷ []) rs h = rw (e x)
+alike_before f b e (x ∷ (y ∷ l)) rs h = rw (e x, alike_before f b e (y ∷ l) rs (omega arith)) (or_again b (any_without_template rs))
 
--- ---- row by row
+-- ---- pair by pair
 
--- one of n rows gives no template
-unfoldable pub any_bare : ℕ → List ℕ → Bool
-any_bare zero d = false
-any_bare (suc n) d = not (is_given 1 (in_words d [])) || any_bare n (drop 27 d)
+not_or : (g b : Bool) → not (not g || b) ≡ (g && not b)
+not_or true b = refl
+not_or false b = refl
 
-pub bare_end : (d : List ℕ) → any_bare 0 d ≡ false
-unfolding any_bare
-bare_end d = refl
+has_rule_lem : (p : Pair) → forms_outcome p ≡ ok → has_rule p ≡ true
+has_rule_lem p h = not_false (has_rule p) (first-both _ _ h).0
 
-bare_suc : (n : ℕ) (d : List ℕ) → any_bare (suc n) d ≡ (not (is_given 1 (in_words d [])) || any_bare n (drop 27 d))
-unfolding any_bare
-bare_suc n d = refl
+from_given : (k : ℕ) (ps : List Pair) → stage_outcome Forms ps ≡ ok → list_all (is_given side.Template) ps ≡ not (any_without_template (rules_from k ps))
+unfolding rules_from
+from_given k [] h = refl
+from_given k (p ∷ ps) h =
+    let t = stage_both Forms p ps h in
+    sym
+    (ap not (alike_before (rule_of k p) (not (is_given side.Template p)) (none_given p) (forms_left p) (rules_from (k + 1) ps) (some_left p (has_rule_lem p t.0)))
+    ∙ not_or (is_given side.Template p) (any_without_template (rules_from (k + 1) ps))
+    ∙ rw (from_given (k + 1) ps t.1))
 
-pub bare-next : (n : ℕ) (d : List ℕ) → 0 < n → any_bare n d ≡ (not (is_given 1 (in_words d [])) || any_bare (n - 1) (drop 27 d))
-bare-next zero d h = absurd (omega arith)
-bare-next (suc n) d h = let e : suc n - 1 ≡ n = omega arith in bare_suc n d ∙ rw e
-
-has-rule : (p : Pair) → forms_outcome p ≡ ok → has_rule p ≡ true
-has-rule p h = not_false (has_rule p) (sym (first-both _ _ h).0)
-
-pub bare-rules : (m k n : ℕ) (d w b : List ℕ) → stage_outcome Forms m (pairs_of n d w b) ≡ ok
-    → any_without_template (rules_from k (pairs_of n d w b)) ≡ any_bare n d
-unfolding any rules_from pairs_of any_bare lowest
-bare-rules m k zero d w b h = refl
-bare-rules m k (suc n) d w b h =
-    let p = pair_of d w b in
-    let t = both_pass (forms_outcome p) _ h in
-    alike_before (rule_of k p) (not (is_given 1 p)) (none-given p) (forms_left p) _ (some_left p (has-rule p t.0))
-    ∙ rw (bare-rules m (k + 1) n (drop 27 d) (drop (counted true d) w) (drop (counted false d) b) t.1)
+pub given_rules : (ps : List Pair) → stage_outcome Forms ps ≡ ok → list_all (is_given side.Template) ps ≡ not (any_without_template (rules ps))
+given_rules ps h = from_given 0 ps h

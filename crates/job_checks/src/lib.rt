@@ -1,131 +1,178 @@
-// The checks of a job behind 22, in document 01's order: 24 to 28. The tables are lent.
+// A job, and its checks behind 22, in document 01's order: 24 to 28.
 #![tactic(auto)]
 
-ghost use Rattle.std.specs.Prelude.{◌≡◌, true, not, List, [], ◌∷◌, ℕ, ◌≤◌, length, take};
+ghost use Rattle.std.specs.Prelude.{◌≡◌, not, ◌≤◌, length, [], IfOk};
 ghost use Rattle.errors.specs.Refusals.{ok};
-ghost use Rattle.errors.specs.Refusals.{first_of, in_turn};
 ghost use Rattle.sorting.specs.Sorted.{sort};
-ghost use Rattle.syntax.specs.Checks.{WellFormed};
-ghost use Rattle.fragments.specs.Pairs.{pairs};
+ghost use Rattle.fragments.specs.Pairs.{pairs_in as all_pairs};
 ghost use Rattle.rules.specs.declared.stages.Stage.TheVariants.{Forms};
 ghost use Rattle.rules.specs.Numbering.{rules};
 ghost use Rattle.rules.specs.Stages.{stage_outcome};
-ghost use Rattle.candidates.specs.Candidates.{candidates_of, candidate_count, keys_of, has_equal_neighbours};
-ghost use Rattle.parses.specs.Parses.{is_parse_list, parses_outcome};
-ghost use Rattle.job_checks.specs.Checks.{asked_of, any_without_template, job_checks};
+ghost use Rattle.candidates.specs.Candidates.{keys_of};
+ghost use Rattle.trees.specs.Given.{outcome_of};
+ghost use Rattle.job_checks.specs.Checks.{job_on, job_in, rules_in, pairs_in, candidates_in, any_without_template, named_outcome, once_outcome, asked_outcome, job_outcome};
+ghost use Rattle.checks.specs.Given.{file_in, given_in};
+ghost use Rattle.job_checks.specs.Checked.{Checked, Listed};
 
-use checks::Restriction;
+use checks::Rules;
 use errors::Refusal;
-use fragments::pairs;
+use fragments::forms::Side;
+use fragments::pairs::Pairs;
+use parses::Parses;
+use rule_paths::ResolvedRules;
 use rules::numbering;
+use syntax::trees::Tree;
+use trees::{File, GivenFile};
+use words::texts::Range;
+
+// What a job and the walk are given: the rules' pairs, the text that their facts point into, the file, the parses, and a range that matches have
+// to be in.
+#[derive(Clone, Copy)]
+pub struct Inputs<'a> {
+    pub directory: &'a [u32],
+    pub words: &'a [u32],
+    pub bytes: &'a [u8],
+    pub fact_text: &'a [u8],
+    pub file: GivenFile<'a>,
+    pub parses: &'a [u32],
+    pub parse_text: &'a [u8],
+    pub range: Option<Range>,
+}
+
+impl<'a> Inputs<'a> {
+    // The rules.
+    pub fn rules(&self) -> Rules<'a>
+        ensures { result ≡ rules_in (job_on self.now []) }
+    {
+        Rules {
+            pairs: Pairs::new(self.directory, self.words, self.bytes),
+            fact_bytes: self.fact_text.len(),
+        }
+    }
+}
+
+// A job as it is handed in: its inputs, and its candidates.
+#[derive(Clone, Copy)]
+pub struct GivenJob<'a> {
+    pub inputs: Inputs<'a>,
+    pub candidates: &'a [u32],
+}
+
+// A job that passed its checks, with its rules, its file, its parses, and its candidates' keys in rising order.
+#[derive(Drop)]
+pub struct CheckedJob<'a, const N: usize> {
+    pub given: GivenJob<'a>,
+    pub rules: ResolvedRules<'a, N>,
+    pub file: File<'a>,
+    pub parses: Parses<'a>,
+    pub keys: &'a [u64],
+    pub ghost checked: { Checked (job_in given) rules file parses keys.now },
+}
+
+// What the checks of a job's candidates and parses leave.
+#[derive(Drop)]
+pub struct Asked<'a> {
+    pub parses: Parses<'a>,
+    pub keys: &'a [u64],
+}
+
+impl<'a, const N: usize> CheckedJob<'a, N> {
+    // A job whose checks passed.
+    pub fn new(
+        given: GivenJob<'a>,
+        rules: ResolvedRules<'a, N>,
+        file: File<'a>,
+        asked: Asked<'a>,
+    ) -> Self
+        requires passed { job_outcome (job_in given) ≡ ok }
+        requires rules_are { rules ≡ rules_in (job_in given) }
+        requires file_is { file_in file ≡ given_in given.inputs.file }
+        requires listed { Listed (job_in given) asked.parses asked.keys.now }
+        ensures given_is { job_in result.given ≡ job_in given.entry }
+    {
+        CheckedJob {
+            given,
+            rules,
+            file,
+            parses: asked.parses,
+            keys: asked.keys,
+        }
+    }
+}
 
 // 24 and 25.
-fn check_candidates(
-    directory: &[u32],
-    words: &[u32],
-    bytes: &[u8],
-    tree: &[u32],
-    candidates: &[u32],
-    range: Restriction,
-) -> Result<(), Refusal>
-    requires { WellFormed tree.now }
-    ensures { result ≡ first_of (take 2 (job_checks (asked_of directory.now words.now bytes.now tree.now candidates.now range))) }
+#[tactic(auto, unfolding(errors::specs::Refusals::first_of, crate::specs::Checks::named_outcome))]
+fn check_candidates(job: &GivenJob, tree: Tree) -> Result<(), Refusal>
+    requires { tree.words.now ≡ job.now.inputs.file.words.now }
+    ensures { result ≡ named_outcome (job_in job.now) }
 {
-    let rules = numbering::count_rules(directory, words, bytes);
-    let count = candidates::count_candidates(candidates);
+    let rules = numbering::count_rules(&job.inputs.rules().pairs);
+    let count = candidates::count_candidates(job.candidates);
     if (16 < rules) | (1024 < count) {
         return Err(Refusal::TooManyRulesOrCandidates);
     }
-    if checks::is_reversed(range) {
+    if checks::is_reversed(job.inputs.range) {
         return Err(Refusal::NoSuchCandidate);
     }
-    if candidates::are_named(tree, candidates, rules) {
-        return Ok(());
+    if !candidates::are_named(tree, job.candidates, rules) {
+        return Err(Refusal::NoSuchCandidate);
     }
-    Err(Refusal::NoSuchCandidate)
+    Ok(())
 }
 
-// Whether two keys are equal. The table begins with them then, in rising order.
-fn order_and_compare(candidates: &[u32], keys: &mut [u64], more: &mut [u64]) -> bool
-    requires { (candidate_count candidates.now ≤ length keys.old) × (candidate_count candidates.now ≤ length more.old) }
-    ensures value { result ≡ has_equal_neighbours (sort (keys_of (candidates_of candidates.now))) }
-    ensures keys_after { take (candidate_count candidates.now) keys.new ≡ sort (keys_of (candidates_of candidates.now)) }
+// 24, 25 and 26, and the candidates' keys in rising order: keys are made of candidates that 24 and 25 let pass, so 1,024 places suffice and a
+// pair has one key.
+#[tactic(auto, using(crate::proofs::JobLaws::list_refuses, crate::proofs::JobLaws::pair_twice, crate::proofs::JobLaws::none_twice))]
+fn check_and_order<'a>(
+    job: &GivenJob,
+    tree: Tree,
+    keys: &'a mut [u64],
+) -> Result<&'a [u64], Refusal>
+    requires tree_is { tree.words.now ≡ job.now.inputs.file.words.now }
+    requires in_bounds { 1024 ≤ length keys.old }
+    ensures value { outcome_of result ≡ once_outcome (job_in job.now) }
+    ensures keys_after { IfOk result (λ sorted. sorted.now ≡ sort (keys_of (candidates_in (job_in job.now)))) }
 {
-    let count = candidates::count_candidates(candidates);
-    candidates::order_candidates(candidates, &mut keys[..count], &mut more[..count]);
-    candidates::is_repeated(&keys[..count])
-}
-
-// 24, 25 and 26: keys are made of candidates that 24 and 25 let pass, so 1,024 places suffice and a pair has one key.
-fn check_and_order(
-    directory: &[u32],
-    words: &[u32],
-    bytes: &[u8],
-    tree: &[u32],
-    candidates: &[u32],
-    range: Restriction,
-    keys: &mut [u64],
-    more: &mut [u64],
-) -> Result<(), Refusal>
-    requires well_formed { WellFormed tree.now }
-    requires in_bounds { (1024 ≤ length keys.old) × (1024 ≤ length more.old) }
-    ensures value { result ≡ first_of (take 3 (job_checks (asked_of directory.now words.now bytes.now tree.now candidates.now range))) }
-    ensures keys_after { result ≡ ok → take (candidate_count candidates.now) keys.new ≡ sort (keys_of (candidates_of candidates.now)) }
-{
-    match check_candidates(directory, words, bytes, tree, candidates, range) {
-        Ok(()) => {
-            if order_and_compare(candidates, keys, more) {
-                return Err(Refusal::RepeatedCandidate);
-            }
-            Ok(())
-        }
-        Err(r) => Err(r),
+    check_candidates(job, tree)?;
+    let count = candidates::count_candidates(job.candidates);
+    let own = &mut keys[..count];
+    candidates::order_candidates(job.candidates, own);
+    if candidates::is_repeated(own) {
+        return Err(Refusal::RepeatedCandidate);
     }
+    Ok(own)
 }
 
 // Whether every rule has a template. A rule has none where its pair has none, and every pair that passed 17 has a rule.
-pub fn have_templates(directory: &[u32]) -> bool
-    ensures { (m : ℕ) (words bytes : List ℕ) → stage_outcome Forms m (pairs directory.now words bytes) ≡ ok → result ≡ not (any_without_template (rules (pairs directory.now words bytes))) }
+#[tactic(auto, using(crate::proofs::TemplateLaws::given_rules))]
+pub fn have_templates(pairs: &Pairs) -> bool
+    ensures { stage_outcome Forms (all_pairs pairs.now) ≡ ok → result ≡ not (any_without_template (rules (all_pairs pairs.now))) }
 {
-    let mut row = directory;
-    let mut n = directory.len() / 27;
-    while 0 < n {
-        if pairs::is_given(row, 1) {
-            let next = pairs::next_row(row);
-            row = next;
-            n -= 1;
-        } else {
+    for pair in pairs {
+        if !pair.is_given(Side::Template) {
             return false;
         }
     }
     true
 }
 
-// 24 to 28, of rules that passed 17 and a file's tree.
-pub fn check_asked(
-    directory: &[u32],
-    words: &[u32],
-    bytes: &[u8],
-    tree: &[u32],
-    parses: &[u32],
-    parse_text: &[u8],
-    candidates: &[u32],
-    range: Restriction,
-    keys: &mut [u64],
-    more: &mut [u64],
-) -> Result<(), Refusal>
-    requires well_formed { WellFormed tree.now × (stage_outcome Forms 0 (pairs directory.now words.now bytes.now) ≡ ok) }
-    requires in_bounds { (1024 ≤ length keys.old) × (1024 ≤ length more.old) }
-    ensures value { result ≡ in_turn (first_of (job_checks (asked_of directory.now words.now bytes.now tree.now candidates.now range)) ∷ parses_outcome parses.now parse_text.now ∷ []) }
-    ensures parses_value { result ≡ ok → (is_parse_list (length parse_text.now) parses.now ≡ true) × (take (candidate_count candidates.now) keys.new ≡ sort (keys_of (candidates_of candidates.now))) }
+// 24 to 28, of rules that passed 17 and a job's tree.
+#[tactic(auto, using(crate::proofs::JobLaws::once_refuses, crate::proofs::JobLaws::template_lacks, crate::proofs::JobLaws::parses_decide))]
+pub fn check_asked<'a>(
+    job: &GivenJob<'a>,
+    tree: Tree,
+    keys: &'a mut [u64],
+) -> Result<Asked<'a>, Refusal>
+    requires tree_is { tree.words.now ≡ job.now.inputs.file.words.now }
+    requires passed { stage_outcome Forms (pairs_in (job_in job.now)) ≡ ok }
+    requires in_bounds { 1024 ≤ length keys.old }
+    ensures value { outcome_of result ≡ asked_outcome (job_in job.now) }
+    ensures listed { IfOk result (λ asked. Listed (job_in job.now) asked.parses asked.keys.now) }
 {
-    match check_and_order(directory, words, bytes, tree, candidates, range, keys, more) {
-        Ok(()) => {
-            if have_templates(directory) {
-                return parse_checks::check_parses(parses, parse_text);
-            }
-            Err(Refusal::NoTemplate)
-        }
-        Err(r) => Err(r),
+    let keys = check_and_order(job, tree, keys)?;
+    if !have_templates(&job.inputs.rules().pairs) {
+        return Err(Refusal::NoTemplate);
     }
+    let parses = parse_checks::check_parses(job.inputs.parses, job.inputs.parse_text)?;
+    Ok(Asked { parses, keys })
 }

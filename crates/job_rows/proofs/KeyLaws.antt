@@ -3,10 +3,10 @@
 use mathlib.Core.Path.{◌≡◌, sym, ap, ◌∙◌}
 use mathlib.Core.Bool.{false}
 use mathlib.Core.List.{List, [], ◌∷◌}
-use Prim.Native.Nat.{ℕ, zero, suc, ◌*◌, ◌≤◌, ◌<◌}
+use Prim.Native.Nat.{ℕ, zero, suc, ◌<◌}
 use native.Mathlib.Omega.{arith}
 use lib.Dec.{eqb}
-use lib.ListN.{length, take, get_or}
+use lib.ListN.{length, get_or}
 use borrow.Author.Tests.{eqb-false}
 use Rattle.words.proofs.TestLaws.{or_neither}
 use Rattle.sorting.specs.Sorted.{sort, Rising}
@@ -14,11 +14,14 @@ use Rattle.sorting.proofs.Laws.{from_at, sort_rising}
 use Rattle.candidates.specs.Candidates.{candidate_count, keys_of, is_first, has_equal_neighbours}
 use Rattle.candidates.proofs.CandidateLaws.{named_low}
 use Rattle.candidates.proofs.KeyLaws.{twice_neighbours}
-use Rattle.gathering.specs.Gathered.{AreNodes, AreBelow, HaveRoom}
+use Rattle.gathering.specs.Gathered.{AreNodes, AreBelow}
 use Rattle.gathering.proofs.MatchLaws.{keys_named}
+use Rattle.trees.specs.declared.File.{File}
+use Rattle.parses.specs.Parses.{Parse}
+use Rattle.checks.specs.declared.Rules.{Rules}
 use Rattle.job_checks.specs.Checks.{Job, candidates_in, rule_count}
 use Rattle.job_checks.specs.Checked.{Checked}
-use Rattle.job_checks.proofs.JobLaws.{length_sorted}
+use Rattle.job_checks.proofs.JobLaws.{length_sorted, checked_formed}
 
 -- numbers that rise and of which no neighbours are equal are apart
 apart : (l : List ℕ) → Rising l → has_equal_neighbours l ≡ false → (a b : ℕ) → a < b → b < length l → get_or l a 0 < get_or l b 0
@@ -32,32 +35,15 @@ apart (k ∷ (m ∷ l)) r h zero (suc b) p q =
 apart (k ∷ (m ∷ l)) r h (suc a) (suc b) p q =
     apart (m ∷ l) r.1 (or_neither (is_first k (m ∷ l)) (has_equal_neighbours (m ∷ l)) h).1 a b (omega arith) (omega arith)
 
--- the keys of all candidates
-abbrev pub keys_in : Job → List ℕ → List ℕ
-keys_in j keys = take (candidate_count j.candidates) keys
-
-module _ {j : Job} {index keys : List ℕ} (checked : Checked j index keys) where
-  pub keys_length : length (keys_in j keys) ≡ candidate_count j.candidates
+module _ (j : Job) (q : Rules) (file : File) (parses : List Parse) (keys : List ℕ) (checked : Checked j q file parses keys) where
+  pub keys_length : length keys ≡ candidate_count j.candidates
   keys_length = ap length checked.sorted ∙ length_sorted j.candidates
 
-  pub keys_name : AreNodes j.file (keys_in j keys) × AreBelow (rule_count j) (keys_in j keys)
+  pub keys_name : AreNodes j.file keys × AreBelow (rule_count j) keys
   keys_name = rw checked.sorted (keys_named j.file (rule_count j) (candidates_in j) checked.few_rules checked.named)
 
-  pub keys_apart : (a b : ℕ) → a < b → b < candidate_count j.candidates → get_or (keys_in j keys) a 0 < get_or (keys_in j keys) b 0
-  keys_apart a b p q =
-      let low = named_low j.file.words (rule_count j) (candidates_in j) checked.formed checked.named in
+  pub keys_apart : (a b : ℕ) → a < b → b < length keys → get_or keys a 0 < get_or keys b 0
+  keys_apart a b p l =
+      let low = named_low j.file.words (rule_count j) (candidates_in j) (checked_formed j q file parses keys checked) checked.named in
       let once = sym (twice_neighbours (rule_count j) checked.few_rules _ (candidates_in j) low) ∙ checked.once in
-      rw checked.sorted (apart (sort (keys_of (candidates_in j))) (sort_rising _) once a b p (omega (arith, length_sorted j.candidates)))
-
-  -- what gathering asks of as many keys as are counted
-  module _ {count : ℕ} (all : count ≡ candidate_count j.candidates) where
-    pub count_is : count ≡ length (take count keys)
-    count_is = rw all (sym keys_length)
-
-    pub keys_asked : (rules : ℕ) (rows links : List ℕ) → rules ≡ rule_count j
-        → candidate_count j.candidates * 44 ≤ length rows → 3 * candidate_count j.candidates ≤ length links
-        → AreNodes j.file (take count keys) × AreBelow rules (take count keys) × HaveRoom (take count keys) rows links
-        × (rules ≤ 16) × (rules ≤ rule_count j)
-    keys_asked rules rows links e a b =
-        let room : HaveRoom (keys_in j keys) rows links = (omega (arith, keys_length), omega (arith, keys_length)) in
-        rw (all, e) (keys_name.0, keys_name.1, room, checked.few_rules, omega arith)
+      rw checked.sorted (apart (sort (keys_of (candidates_in j))) (sort_rising _) once a b p (omega (arith, ap length checked.sorted)))

@@ -1,168 +1,239 @@
--- The rows and links of a job that passed its checks: what is gathered may be nested, what is nested may be linked, and then rows and links
--- show the job's world, whose edit list is the job's.
+-- The rows of a job that passed its checks: what is gathered may be nested, what is nested may be linked, and then the rows show the job's
+-- world, whose edit list is the job's.
 -- Assumes nothing.
-use mathlib.Core.Path.{◌≡◌, refl, ap, ◌∙◌}
-use mathlib.Core.Bool.{cond}
+use mathlib.Core.Path.{◌≡◌, refl, sym, ap, subst, ◌∙◌}
+use mathlib.Core.Bool.{true, false, not}
 use mathlib.Core.List.{List, [], ◌∷◌}
-use Prim.Native.Nat.{ℕ, ◌/◌, ◌%◌, ◌*◌, ◌≤◌, ◌<◌}
+use Prim.Native.Nat.{ℕ, ◌/◌, ◌%◌, ◌≤◌, ◌<◌}
 use native.Mathlib.Omega.{arith}
 use lib.Dec.{eqb}
-use lib.ListN.{length, take, get_or}
+use lib.ListN.{length, get_or}
 use borrow.Author.Tests.{ne_eqb}
+use mathlib.Core.Bool.{true≢false}
+use Rattle.syntax.specs.Trees.{tree}
+use Rattle.syntax.specs.Checks.{WellFormed}
 use Rattle.syntax.proofs.Places.{tree-size}
+use Rattle.std.proofs.Common.{is_some}
 use Rattle.captures.specs.Attempts.{Attempt, failed, matched, comments_of}
 use Rattle.matcher.specs.FileFacts.{module_of}
-use Rattle.candidates.specs.Candidates.{candidate_count, has}
+use Rattle.candidates.specs.Candidates.{has}
 use Rattle.candidates.proofs.CandidateLaws.{node_below}
+use Rattle.trees.specs.declared.File.{File as Accepted}
+use Rattle.parses.specs.Parses.{Parse}
+use Rattle.checks.specs.declared.Rules.{Rules}
+use Rattle.checks.specs.Given.{File, file_in, found_rule}
+use Rattle.nester.specs.declared.Nesting.{Nesting}
+use Rattle.nester.specs.declared.Row.{Row}
 use Rattle.nester.specs.Matches.{by_element}
-use Rattle.nester.specs.Rows.{field, matches_in, Candidates, Held, Nested}
+use Rattle.nester.specs.Rows.{row_at, unnested, matches_in, IsFresh, Candidates, Held, Nested}
 use Rattle.nester.proofs.Lines.{tree_laws}
-use Rattle.rendering.specs.Traces.{within}
-use Rattle.edits.specs.Traces.{list_trace}
-use Rattle.collections.specs.Worlds.{outer_items}
-use Rattle.collections.specs.Links.{link_word, Linked}
-use Rattle.collections.proofs.Theorem.{nested_held, job_list}
+use Rattle.rows.specs.Rows.{is_inside, NestedBefore}
+use Rattle.collections.specs.Links.{unlinked, Linked}
+use Rattle.collections.proofs.Theorem.{job_list}
 use Rattle.collections.proofs.LinkLaws.{linked_before}
-use Rattle.match_rows.specs.Told.{StateOf, has_comments, Told}
+use Rattle.match_rows.specs.Told.{has_comments, row_of}
 use Rattle.gathering.specs.Gathered.{Gathered}
 use Rattle.gathering.proofs.MatchLaws.{shown-matches}
-use Rattle.checks.specs.Given.{found_rule}
+use Rattle.readying.specs.Templates.{found_template}
 use Rattle.render_replace.specs.Worlds.{Shown}
 use Rattle.job_checks.specs.Checks.{Job, rules_in, tree_in, candidates_in, rule_count}
 use Rattle.job_checks.specs.Checked.{Checked}
+use Rattle.job_checks.proofs.JobLaws.{checked_formed}
 use Rattle.job_answers.specs.Collected.{attempt_in, start_in, end_in, setting_of}
+use Rattle.job_answers.proofs.Templates.{checked_template}
 use Rattle.job_rows.specs.Rows.{world_in, handed_in, RowsOf}
-use Rattle.job_rows.proofs.RangeLaws.{starts_are, ends_are}
-use Rattle.job_rows.proofs.TemplateLaws.{HasTemplate, has_template}
-use Rattle.job_rows.proofs.KeyLaws.{keys_in, keys_length, keys_name, keys_apart}
+use Rattle.job_rows.proofs.KeyLaws.{keys_length, keys_name, keys_apart}
 
--- a row's state is 0 or 1 before it is nested
-state_low : (a : Attempt) (rows : List ℕ) (i : ℕ) → StateOf a rows i → field rows i 2 ≤ 1
-state_low failed rows i s = omega arith
-state_low (matched es) rows i s = omega (arith, s.0)
+-- ---- the row of an attempt
 
--- an attempt whose link does not say so has no comments
-no_comments : (a : Attempt) → (has_comments a ≡ 1 → ⊥) → comments_of a ≡ []
+module _ (n r m : ℕ) where
+  is_fresh : (a : Attempt) → IsFresh (row_of n r m a).state
+  is_fresh failed = tt
+  is_fresh (matched es) = tt
+
+  its_node : (a : Attempt) → (row_of n r m a).node ≡ n
+  its_node failed = refl
+  its_node (matched es) = refl
+
+  its_rule : (a : Attempt) → (row_of n r m a).rule ≡ r
+  its_rule failed = refl
+  its_rule (matched es) = refl
+
+  its_end : (a : Attempt) → (row_of n r m a).end ≡ 0
+  its_end failed = refl
+  its_end (matched es) = refl
+
+  its_module : (a : Attempt) → (row_of n r m a).«module» ≡ m
+  its_module failed = refl
+  its_module (matched es) = refl
+
+  its_comments : (a : Attempt) → (row_of n r m a).has_comments ≡ has_comments a
+  its_comments failed = refl
+  its_comments (matched es) = refl
+
+-- an attempt of which it says so has no comments
+no_comments : (a : Attempt) → has_comments a ≡ false → comments_of a ≡ []
 no_comments a h = by (comments_of a) h
   where
-    by : (l : List ℕ) → (◌≡◌ {A = ℕ} (cond (eqb (length l) 0) 0 1) 1 → ⊥) → l ≡ []
+    by : (l : List ℕ) → not (eqb (length l) 0) ≡ false → l ≡ []
     by [] h = refl
-    by (x ∷ l) h = absurd (h (rw (ne_eqb (length (x ∷ l)) 0 (λ e. omega arith))))
+    by (x ∷ l) h =
+        let e : eqb (length (x ∷ l)) 0 ≡ false = ne_eqb (length (x ∷ l)) 0 (λ e. omega arith) in
+        absurd (true≢false (ap not (sym e) ∙ h))
 
-module _ {j : Job} {index keys : List ℕ} (checked : Checked j index keys) where
-  abbrev n : ℕ
-  n = candidate_count j.candidates
+module _ (j : Job) (q : Rules) (file : Accepted) (parses : List Parse) (keys : List ℕ) (checked : Checked j q file parses keys) where
+  formed : WellFormed j.file.words
+  formed = checked_formed j q file parses keys checked
 
   abbrev key : ℕ → ℕ
-  key k = get_or (keys_in j keys) k 0
+  key k = get_or keys k 0
 
-  in_keys : (k : ℕ) → k < n → k < length (keys_in j keys)
-  in_keys k h = omega (arith, keys_length checked)
+  -- of its rules and its file
+  its_gathered : (rows : List Row) → Gathered q (file_in file) j.range keys rows → Gathered (rules_in j) j.file j.range keys rows
+  its_gathered rows gathered =
+      subst (λ (f : File). Gathered (rules_in j) f j.range keys rows) checked.file_is
+      (subst (λ (p : Rules). Gathered p (file_in file) j.range keys rows) checked.rules_are gathered)
 
   -- ---- gathered, but not nested yet
 
-  module _ {rows links : List ℕ} (gathered : Gathered (rules_in j) j.file j.range (keys_in j keys) rows links) where
-    told : (k : ℕ) → k < n → Told (attempt_in j) (module_of j.file.facts) (keys_in j keys) rows links k
-    told k h = gathered k (in_keys k h)
+  module _ (rows : List Row) (long : length rows ≡ length keys) (gathered : Gathered (rules_in j) j.file j.range keys rows) where
+    told : (k : ℕ) → k < length rows → row_at rows k ≡ row_of (key k / 16) (key k % 16) (module_of j.file.facts (key k / 16)) (attempt_in j (key k / 16) (key k % 16))
+    told k h = gathered k (omega (arith, long))
 
-    fresh : (k : ℕ) → k < n → field rows k 2 ≤ 1
-    fresh k h = state_low (attempt_in j (key k / 16) (key k % 16)) rows k (told k h).0.state
+    fresh : (k : ℕ) → k < length rows → IsFresh (row_at rows k).state
+    fresh k h =
+        subst (λ (r : Row). IsFresh r.state) (sym (told k h)) (is_fresh _ _ _ (attempt_in j (key k / 16) (key k % 16)))
 
-    are_candidates : n * 44 ≤ length rows → Candidates (tree_in j) rows n
-    are_candidates long = record {
-      long = long;
-      few = checked.few_candidates;
+    node_told : (k : ℕ) → k < length rows → (row_at rows k).node ≡ key k / 16
+    node_told k h = ap (λ (r : Row). r.node) (told k h) ∙ its_node _ _ _ (attempt_in j (key k / 16) (key k % 16))
+
+    rule_told : (k : ℕ) → k < length rows → (row_at rows k).rule ≡ key k % 16
+    rule_told k h = ap (λ (r : Row). r.rule) (told k h) ∙ its_rule _ _ _ (attempt_in j (key k / 16) (key k % 16))
+
+    are_candidates : Candidates (tree_in j) rows
+    are_candidates = record {
+      few = omega (arith, checked.few_candidates, long, keys_length j q file parses keys checked);
       known = λ k h.
-          let low = node_below j.file.words (key k / 16) checked.formed ((keys_name checked).0 k (in_keys k h)) in
-          rw (told k h).0.node (omega (arith, tree-size j.file.words checked.formed));
-      rising = λ a b p q. omega (arith, keys_apart checked a b p q, (told a (omega arith)).0.node, (told b q).0.node);
-      distinct = λ a b p q same-node same-rule.
-          let r = (told a (omega arith)).0 in
-          omega (arith, keys_apart checked a b p q, r.node, r.rule, (told b q).0.node, (told b q).0.rule);
+          let low = node_below j.file.words (key k / 16) formed ((keys_name j q file parses keys checked).0 k (omega (arith, long))) in
+          rw (node_told k h) (omega (arith, low, tree-size j.file.words formed));
+      rising = λ a b p l.
+          omega (arith, keys_apart j q file parses keys checked a b p (omega (arith, long)), node_told a (omega arith), node_told b l);
+      distinct = λ a b p l same-node same-rule.
+          omega (
+            arith,
+            keys_apart j q file parses keys checked a b p (omega (arith, long)),
+            node_told a (omega arith),
+            node_told b l,
+            rule_told a (omega arith),
+            rule_told b l,
+            same-node,
+            same-rule,
+          );
     }
 
-    matches_are : matches_in (λ e r. comments_of (attempt_in j e r)) rows n ≡ by_element (tree_in j) (rule_count j) (attempt_in j) (has (candidates_in j))
+    matches_are : matches_in (λ n r. comments_of (attempt_in j n r)) rows ≡ by_element (tree_in j) (rule_count j) (attempt_in j) (has (candidates_in j))
     matches_are =
-        rw (keys_length checked) at
-        (shown-matches j.file.words (rule_count j) (attempt_in j) checked.few_rules (module_of j.file.facts) (candidates_in j)
-        (keys_in j keys) rows links checked.formed checked.named checked.once checked.sorted gathered)
+        shown-matches j.file.words (rule_count j) (attempt_in j) checked.few_rules (module_of j.file.facts) (candidates_in j) keys rows
+        formed checked.named checked.once checked.sorted long gathered
 
-    -- ---- nested
+    -- ---- nested, and linked
 
-    module _ {rows' : List ℕ} (nested : Nested (tree_in j) n rows rows') where
-      held : Held rows' n
-      held = nested_held (tree_in j) n rows rows' nested fresh
+    module _ (mid : List Row) (nested : Nested (tree_in j) rows mid) where
+      mid_end : (k : ℕ) → k < length mid → (row_at mid k).end ≡ 0
+      mid_end k h =
+          ap (λ (r : Row). r.end) (nested.stays k ∙ ap unnested (told k (omega (arith, nested.long))))
+          ∙ its_end _ _ (module_of j.file.facts (key k / 16)) (attempt_in j (key k / 16) (key k % 16))
 
-      node_is : (k : ℕ) → k < n → field rows' k 0 ≡ key k / 16
-      node_is k h = nested.stays k 0 (omega arith) (λ z. omega arith) (λ z. omega arith) ∙ (told k h).0.node
+      module _ (all : List Row) (linked : Linked mid all) where
+        -- all of a row but its state and its end
+        stays : (k : ℕ) → k < length rows → unnested (unlinked (row_at all k))
+            ≡ unnested (unlinked (row_of (key k / 16) (key k % 16) (module_of j.file.facts (key k / 16)) (attempt_in j (key k / 16) (key k % 16))))
+        stays k h = ap unnested (linked.others k) ∙ ap unlinked (nested.stays k) ∙ ap (λ (r : Row). unnested (unlinked r)) (told k h)
 
-      rule_is : (k : ℕ) → k < n → field rows' k 1 ≡ key k % 16
-      rule_is k h = nested.stays k 1 (omega arith) (λ z. omega arith) (λ z. omega arith) ∙ (told k h).0.rule
+        node_is : (k : ℕ) → k < length rows → (row_at all k).node ≡ key k / 16
+        node_is k h = ap (λ (r : Row). r.node) (stays k h) ∙ its_node _ _ (module_of j.file.facts (key k / 16)) (attempt_in j (key k / 16) (key k % 16))
 
-      -- its rule has a template
-      template : (k : ℕ) → k < n → HasTemplate (rules_in j) (found_rule (rules_in j) (field rows' k 1))
-      template k h =
-          has_template (rules_in j) (length j.fact_text) checked.trees checked.resolved checked.templates (field rows' k 1)
-          (rw (rule_is k h) ((keys_name checked).1 k (in_keys k h)))
+        rule_is : (k : ℕ) → k < length rows → (row_at all k).rule ≡ key k % 16
+        rule_is k h = ap (λ (r : Row). r.rule) (stays k h) ∙ its_rule _ _ (module_of j.file.facts (key k / 16)) (attempt_in j (key k / 16) (key k % 16))
 
-      -- ---- and linked
+        module_is : (k : ℕ) → k < length rows → (row_at all k).«module» ≡ module_of j.file.facts (row_at all k).node
+        module_is k h =
+            ap (λ (r : Row). r.«module») (stays k h) ∙ its_module (key k / 16) (key k % 16) _ (attempt_in j (key k / 16) (key k % 16))
+            ∙ ap (module_of j.file.facts) (sym (node_is k h))
 
-      module _ {links' : List ℕ} (linked : Linked rows' n links links') where
-        noted_is : (k : ℕ) → k < n → link_word links' k 1 ≡ has_comments (attempt_in j (field rows' k 0) (field rows' k 1))
-        noted_is k h = rw (node_is k h, rule_is k h) (linked.others k 1 (omega arith) (omega arith) ∙ (told k h).1.noted)
+        noted_is : (k : ℕ) → k < length rows → (row_at all k).has_comments ≡ has_comments (attempt_in j (row_at all k).node (row_at all k).rule)
+        noted_is k h =
+            ap (λ (r : Row). r.has_comments) (stays k h)
+            ∙ its_comments (key k / 16) (key k % 16) (module_of j.file.facts (key k / 16)) (attempt_in j (key k / 16) (key k % 16))
+            ∙ λ d. has_comments (attempt_in j (sym (node_is k h) d) (sym (rule_is k h) d))
 
-        module_is : (k : ℕ) → k < n → link_word links' k 2 ≡ module_of j.file.facts (field rows' k 0)
-        module_is k h = rw (node_is k h) (linked.others k 2 (omega arith) (omega arith) ∙ (told k h).1.«module»)
+        length-all : length all ≡ length rows
+        length-all = linked.long ∙ nested.long
 
-        are_shown : Shown (world_in j rows') (handed_in j rows' links')
+        in_rows : (k : ℕ) → k < length all → k < length rows
+        in_rows k h = omega (arith, length-all)
+
+        -- its rule has a template
+        template : (k : ℕ) → k < length rows → is_some (found_template (rules_in j) (found_rule (rules_in j) (row_at all k).rule)) ≡ true
+        template k h =
+            subst (λ (p : Rules). is_some (found_template p (found_rule p (row_at all k).rule)) ≡ true) checked.rules_are
+            (checked_template j q file parses keys checked (row_at all k).rule
+            (omega (arith, rule_is k h, (keys_name j q file parses keys checked).1 k (omega (arith, long)))))
+
+        state_same : (k : ℕ) → (row_at all k).state ≡ (row_at mid k).state
+        state_same k = ap (λ (r : Row). r.state) (linked.others k)
+
+        nested_before : (k : ℕ) → k < length all → NestedBefore (world_in j all) k (row_at all k).end
+        nested_before k h slot i l e =
+            (linked_before (world_in j mid) all linked k (omega (arith, linked.long))).0 slot i (omega (arith, linked.long))
+            (subst (λ (s : Nesting). is_inside k slot s ≡ true) (state_same i) e)
+
+        are_shown : Shown (world_in j all) (handed_in j all)
         are_shown = record {
           reads = refl;
-          few = checked.few_candidates;
+          few = omega (arith, checked.few_candidates, long, keys_length j q file parses keys checked, length-all);
           file = refl;
-          starts = λ k h. ap (λ (f : ℕ → ℕ). f (field rows' k 0)) (starts_are j.file.words checked.formed);
-          ends = λ k h. ap (λ (f : ℕ → ℕ). f (field rows' k 0)) (ends_are j.file.words checked.formed);
-          fragments = λ k h. rw (module_is k h);
+          starts = λ k h. refl;
+          ends = λ k h. refl;
+          fragments = λ k h. rw (module_is k (in_rows k h));
           kinds = λ k h. refl;
           comments = λ k h. refl;
           parse = refl;
-          nodes = λ k h. rw (node_is k h) ((keys_name checked).0 k (in_keys k h));
-          templates = λ k h. (template k h).form;
-          nested = λ k h. (linked_before (world_in j rows') links links' linked k h).0;
-          last = λ k h. (linked_before (world_in j rows') links links' linked k h).1;
-          bare = λ k h e. no_comments (attempt_in j (field rows' k 0) (field rows' k 1)) (λ q. e (noted_is k h ∙ q));
+          nodes = λ k h.
+              rw (node_is k (in_rows k h)) ((keys_name j q file parses keys checked).0 k (omega (arith, in_rows k h, long)));
+          templates = λ k h. template k (in_rows k h);
+          nested = nested_before;
+          last = λ k h. omega (arith, (linked_before (world_in j mid) all linked k (omega (arith, linked.long))).1, linked.long);
+          bare = λ k h e. no_comments (attempt_in j (row_at all k).node (row_at all k).rule) (sym (noted_is k (in_rows k h)) ∙ e);
         }
 
-        are_rows_lem : n * 44 ≤ length rows → RowsOf j rows' links'
-        are_rows_lem long = record {
+        are_rows : RowsOf j all
+        are_rows = record {
           shown = are_shown;
           list = λ room.
-              job_list (tree_in j) (tree_laws j.file.words checked.formed) (rule_count j) (attempt_in j) (has (candidates_in j))
-              (λ e r. comments_of (attempt_in j e r)) (setting_of j) n rows rows' (are_candidates long) fresh nested matches_are
-              (λ k h. (template k h).low j.fact_text _) (start_in j) (end_in j) room
-              ∙ λ d. within (list_trace (starts_are j.file.words checked.formed d) (ends_are j.file.words checked.formed d)
-              (outer_items (world_in j rows'))) room;
+              job_list (tree_in j) (tree_laws j.file.words formed) (rule_count j) (attempt_in j) (has (candidates_in j))
+              (λ n r. comments_of (attempt_in j n r)) (setting_of j) rows mid all are_candidates nested linked matches_are
+              (start_in j) (end_in j) room;
         }
 
-  -- ---- as many rows as are counted
+  -- ---- of the rules and the file that were accepted
 
-  module _ {count : ℕ} (all : count ≡ n) {rows links : List ℕ} (long : n * 44 ≤ length rows)
-      (gathered : Gathered (rules_in j) j.file j.range (take count keys) rows links) where
-    gathered_all : Gathered (rules_in j) j.file j.range (keys_in j keys) rows links
-    gathered_all = rw all at gathered
+  its_nested : (rows mid : List Row) → Nested (tree file.tree.words.now) rows mid → Nested (tree_in j) rows mid
+  its_nested rows mid nested = subst (λ (f : File). Nested (tree f.words) rows mid) checked.file_is nested
 
+  module _ (rows : List Row) (long : length rows ≡ length keys) (gathered : Gathered q (file_in file) j.range keys rows) where
     -- what nesting asks
-    pub may_nest : Candidates (tree_in j) rows count × ((i : ℕ) → i < count → field rows i 2 ≤ 1)
-    may_nest = rw all (are_candidates gathered_all long, fresh gathered_all)
+    pub may_nest : Candidates (tree file.tree.words.now) rows
+    may_nest = subst (λ (f : File). Candidates (tree f.words) rows) (sym checked.file_is) (are_candidates rows long (its_gathered rows gathered))
 
-    module _ {rows' : List ℕ} (nested : Nested (tree_in j) count rows rows') where
-      nested-all : Nested (tree_in j) n rows rows'
-      nested-all = rw all at nested
-
+    module _ (mid : List Row) (nested : Nested (tree file.tree.words.now) rows mid) where
       -- what linking asks
-      pub may_link : 3 * n ≤ length links
-          → ((count ≤ 1024) × (3 * count ≤ length links)) × (Held rows' count × ((k : ℕ) → k < count → link_word links k 0 ≡ 0))
-      may_link wide =
-          rw all ((checked.few_candidates, wide), (held gathered_all nested-all, λ k h. (told gathered_all k h).1.fresh))
+      pub may_link : (length mid ≤ 1024) × Held mid (length mid) × ((k : ℕ) → k < length mid → (row_at mid k).end ≡ 0)
+      may_link = (
+        omega (arith, (are_candidates rows long (its_gathered rows gathered)).few, nested.long),
+        subst (Held mid) (sym nested.long) nested.held,
+        mid_end rows long (its_gathered rows gathered) mid (its_nested rows mid nested),
+      )
 
-      pub rows_of : {links' : List ℕ} → Linked rows' count links links' → RowsOf j rows' links'
-      rows_of linked = are_rows_lem gathered_all nested-all (rw all at linked) long
+      pub rows_of : (all : List Row) → Linked mid all → RowsOf j all
+      rows_of all linked = are_rows rows long (its_gathered rows gathered) mid (its_nested rows mid nested) all linked

@@ -1,78 +1,97 @@
 -- What is asked: a node of the file and a range, the stages before the match, and the used part of the buffer.
 -- Assumes nothing.
 use mathlib.Core.Path.{◌≡◌, refl, sym, ◌∙◌}
-use mathlib.Core.Bool.{Bool, true, false, not, ◌&&◌}
+use mathlib.Core.Bool.{true, false, and-false}
 use mathlib.Core.List.{List, [], ◌∷◌, ◌++◌}
 use Prim.Native.Nat.{ℕ, ◌≤◌}
-use native.Mathlib.Omega.{arith}
 use lib.ListN.{length, take, drop}
+use Rattle.std.proofs.Common.{Option, Some, None, option_map, Result, Err}
 use Rattle.errors.specs.Refusals.{ok, err}
 use Rattle.errors.specs.declared.Refusal.{Refusal}
 use Rattle.errors.specs.declared.Refusal.TheVariants.{NoSuchNodeOrRule}
 use Rattle.errors.specs.Refusals.{first_of, in_turn}
 use Rattle.errors.proofs.Laws.{turn_last}
-use Rattle.words.specs.Buffer.{used_of}
-use Rattle.words.proofs.BufferLaws.{part_filled}
-use Rattle.syntax.specs.Checks.{WellFormed}
-use Rattle.syntax.proofs.Places.{tree-size, tree-none}
-use Rattle.fragments.specs.Pairs.{pair_at}
+use Rattle.words.specs.declared.texts.Range.{Range}
+use Rattle.words.specs.Buffer.{used_of, filled}
+use Rattle.words.proofs.BufferLaws.{used_all, part_filled}
+use Rattle.captures.specs.declared.State.{State}
+use Rattle.captures.specs.Effects.{nothing, Gives}
+use Rattle.captures.specs.Attempts.{Attempt}
+use Rattle.answers.specs.declared.NodeMatch.{NodeMatch}
+use Rattle.answers.specs.Answers.{answer_of, bytes_of}
 use Rattle.rules.specs.declared.numbering.Rule.{Rule}
-use Rattle.rules.specs.declared.numbering.Found.{Found}
-use Rattle.rules.specs.declared.numbering.Found.TheVariants.{NoSuchRule, At}
-use Rattle.checks.specs.declared.Restriction.{Restriction}
-use Rattle.answers.specs.Answers.{refused_match, answer_of, bytes_of}
-use Rattle.checks.specs.Given.{File, Rules, file_of, found_rule, is_node_of, is_range}
-use Rattle.resolved.proofs.ResolvedLaws.{to_resolve, turns_pass, turns_refuse}
+use Rattle.rule_paths.specs.Needs.{PairedRule, paired}
+use Rattle.checks.specs.declared.Rules.{Rules}
+use Rattle.checks.specs.Given.{File, found_rule, is_node_of, is_reversed}
+use Rattle.resolved.specs.Resolved.{to_resolve}
+use Rattle.resolved.proofs.ResolvedLaws.{turns_pass, turns_refuse}
 use Rattle.rule_match.specs.RuleMatch.{rule_match, found_match}
-use Rattle.match_node.specs.MatchNode.{asked_outcome, match_outcome, answer_by, bytes_by, buffer_after}
+use Rattle.match_node.specs.MatchNode.{asked_outcome, match_outcome, bytes_by, matched_node, buffer_after, Answered}
 
 -- ---- 23
 
-pub bad_range : (a b : Bool) → b ≡ true → false ≡ (a && not b)
-bad_range true b h = rw h
-bad_range false b h = refl
+module _ (q : Rules) (f : File) (number : ℕ) (range : Option Range) (node : ℕ) (out : List ℕ) (r : Result (Option NodeMatch) Refusal) (out' : List ℕ) where
+  module _ (er : r ≡ Err NoSuchNodeOrRule) (eo : out' ≡ filled out []) where
+    pub no_rule : None ≡ option_map (paired q) (found_rule q number) → Answered q f number range node out r out'
+    unfolding first_of
+    no_rule e = go (found_rule q number) refl e
+      where
+        go : (found : Option Rule) → found_rule q number ≡ found → None ≡ option_map (paired q) found → Answered q f number range node out r out'
+        go None k m = record { value = er ∙ rw k; out_after = eo ∙ rw k }
+        go (Some rule) k m = absurd cc
 
-pub good_range : (r a b : Bool) → r ≡ a → b ≡ false → r ≡ (a && not b)
-good_range r true b h k = h ∙ rw k
-good_range r false b h k = h
+    module _ (x : PairedRule) (there : Some x ≡ option_map (paired q) (found_rule q number)) where
+      pub bad_range : true ≡ is_reversed range → Answered q f number range node out r out'
+      unfolding first_of
+      bad_range e = go (found_rule q number) refl there
+        where
+          go : (found : Option Rule) → found_rule q number ≡ found → Some x ≡ option_map (paired q) found → Answered q f number range node out r out'
+          go None k m = absurd cc
+          go (Some rule) k m = record { value = er ∙ rw (k, ← e, and-false (is_node_of f node)); out_after = eo ∙ rw (k, ← e, and-false (is_node_of f node)) }
 
--- no node has a number past all that a tree may have
-pub no_node : (words text facts : List ℕ) (node : ℕ) (b : Bool) → WellFormed words → 16384 ≤ node → false ≡ (is_node_of (file_of words text facts) node && b)
-no_node words text facts node b w h =
-    let n = tree-none words node w (omega (arith, tree-size words w, w.few)) in
-    sym (rw n)
+      pub no_node : false ≡ is_node_of f node → Answered q f number range node out r out'
+      unfolding first_of
+      no_node e = go (found_rule q number) refl there
+        where
+          go : (found : Option Rule) → found_rule q number ≡ found → Some x ≡ option_map (paired q) found → Answered q f number range node out r out'
+          go None k m = absurd cc
+          go (Some rule) k m = record { value = er ∙ rw (k, ← e); out_after = eo ∙ rw (k, ← e) }
 
-module _ (q : Rules) (f : File) (range : Restriction) (node room : ℕ) (found : Found) where
-  pub asked-matches : (r : Rule) → found ≡ At r → (is_node_of f node && is_range range) ≡ true
-      → (answer_of room (rule_match (pair_at r.pair q.directory q.words q.bytes) r f range node) ≡ answer_by (asked_outcome found f range node) room (found_match q f found range node))
-      × (bytes_of room (rule_match (pair_at r.pair q.directory q.words q.bytes) r f range node) ≡ bytes_by (asked_outcome found f range node) room (found_match q f found range node))
+  -- the match is made
+  pub is_asked : (x : PairedRule) (state : Option State) (mid : List ℕ) → Some x ≡ option_map (paired q) (found_rule q number) → false ≡ is_reversed range → true ≡ is_node_of f node
+      → Gives (rule_match x.pair x.rule f range node) nothing out state mid
+      → ((a : Attempt) (before : List ℕ) → Gives a nothing before state mid → r ≡ answer_of (length before) a)
+      → ((a : Attempt) (before : List ℕ) → Gives a nothing before state mid → out' ≡ filled before (bytes_of (length before) a))
+      → Answered q f number range node out r out'
   unfolding first_of
-  asked-matches r e h = rw (e, h) (refl, refl)
+  is_asked x state mid there ranged is gives value after = go (found_rule q number) refl there
+    where
+      go : (found : Option Rule) → found_rule q number ≡ found → Some x ≡ option_map (paired q) found → Answered q f number range node out r out'
+      go None k m = absurd cc
+      go (Some rule) k m =
+          let s : x ≡ paired q rule = cc in
+          let g = rw s at gives in
+          record { value = value (rule_match (paired q rule).pair (paired q rule).rule f range node) out g ∙ rw (k, ← ranged, ← is); out_after = after (rule_match (paired q rule).pair (paired q rule).rule f range node) out g ∙ rw (k, ← ranged, ← is) }
 
-  pub asked_in_vain : found ≡ NoSuchRule
-      → (refused_match NoSuchNodeOrRule ≡ answer_by (asked_outcome found f range node) room (found_match q f found range node)) × (bytes_by (asked_outcome found f range node) room (found_match q f found range node) ≡ [])
-  unfolding first_of
-  asked_in_vain e = rw e (refl, refl)
+  -- ---- the stages before
 
-  pub asked_amiss : (r : Rule) → found ≡ At r → (is_node_of f node && is_range range) ≡ false
-      → (refused_match NoSuchNodeOrRule ≡ answer_by (asked_outcome found f range node) room (found_match q f found range node)) × (bytes_by (asked_outcome found f range node) room (found_match q f found range node) ≡ [])
-  unfolding first_of
-  asked_amiss r e h = rw (e, h) (refl, refl)
+  pub match_asked : (q' : Rules) (f' : File) → (q' ≡ q) × (f' ≡ f) → ok ≡ in_turn (to_resolve q f) → length out ≤ 1048576 → Answered q' f' number range node out r out'
+      → (r ≡ matched_node q f number range node (length out)) × (out' ≡ buffer_after q f number range node out)
+  match_asked q' f' same h few given =
+      let a : Answered q f number range node out r out' = rw (same.0, same.1) at given in
+      let asked = asked_outcome (found_rule q number) f range node in
+      let e : match_outcome q f number range node ≡ asked = turns_pass (to_resolve q f) (asked ∷ []) (sym h) ∙ turn_last asked in
+      (a.value ∙ sym (rw e), a.out_after ∙ sym (rw (e, used_all (length out) few)))
 
--- ---- the stages
-
-module _ (q : Rules) (f : File) where
-  module _ (number : ℕ) (range : Restriction) (node : ℕ) where
-    pub match_refused : (r : Refusal) → in_turn (to_resolve q f) ≡ err r → match_outcome q f number range node ≡ err r
-    match_refused r h = turns_refuse (to_resolve q f) (asked_outcome (found_rule q number) f range node ∷ []) r h
-
-    pub match_asked : in_turn (to_resolve q f) ≡ ok → match_outcome q f number range node ≡ asked_outcome (found_rule q number) f range node
-    match_asked h =
-        turns_pass (to_resolve q f) (asked_outcome (found_rule q number) f range node ∷ []) h ∙ turn_last (asked_outcome (found_rule q number) f range node)
+  pub match_refused : (refusal : Refusal) → err refusal ≡ in_turn (to_resolve q f) → r ≡ Err refusal → out' ≡ filled out []
+      → (r ≡ matched_node q f number range node (length out)) × (out' ≡ buffer_after q f number range node out)
+  match_refused refusal h er eo =
+      let e : match_outcome q f number range node ≡ err refusal = turns_refuse (to_resolve q f) (asked_outcome (found_rule q number) f range node ∷ []) refusal (sym h) in
+      (er ∙ sym (rw e), eo ∙ sym (rw e))
 
 -- ---- the used part of a buffer
 
-pub buffer_part : (q : Rules) (f : File) (number : ℕ) (range : Restriction) (node : ℕ) (d e : List ℕ) → e ≡ buffer_after q f number range node (take (used_of (length d)) d)
+pub buffer_part : (q : Rules) (f : File) (number : ℕ) (range : Option Range) (node : ℕ) (d e : List ℕ) → e ≡ buffer_after q f number range node (take (used_of (length d)) d)
     → e ++ drop (used_of (length d)) d ≡ buffer_after q f number range node d
 buffer_part q f number range node =
     part_filled (λ n. bytes_by (match_outcome q f number range node) n (found_match q f (found_rule q number) range node))

@@ -1,2 +1,1 @@
--- Laws of the definitions of specs/, for this crate and those above.
-pub mod AskedLaws
+mod AskedLaws

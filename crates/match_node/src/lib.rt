@@ -1,244 +1,113 @@
 // The operation "Matching one node".
 #![tactic(auto)]
 
-ghost use Rattle.std.specs.Prelude.{◌≡◌, false, ◌&&◌, List, map, ℕ, ◌≤◌, ◌/◌, length};
-ghost use Rattle.errors.specs.Refusals.{ok};
-ghost use Rattle.words.specs.Buffer.{used_of, filled};
-ghost use Rattle.syntax.specs.Checks.{WellFormed};
-ghost use Rattle.fragments.specs.Pairs.{pairs};
-ghost use Rattle.rules.specs.declared.stages.Stage.TheVariants.{TreesWithFacts};
-ghost use Rattle.rules.specs.Forms.{any};
-ghost use Rattle.rules.specs.Stages.{stage_outcome};
-ghost use Rattle.rule_paths.specs.RulePaths.{pair_fails};
-ghost use Rattle.rule_paths.specs.Needs.{AllRoomy};
-ghost use Rattle.matcher.specs.FileFacts.{FileOf};
-ghost use Rattle.checks.specs.Given.{file_of, rules_of, found_rule, is_node_of, is_range};
-ghost use Rattle.match_node.specs.MatchNode.{asked_outcome, answer_by, bytes_by, matched_node, buffer_after};
-ghost use Rattle.rule_match.specs.RuleMatch.{found_match};
-ghost use Rattle.preparing.specs.Ready.{MarksRoomy};
+ghost use Rattle.std.specs.Prelude.{◌≡◌, ◌≤◌, ◌/◌, length};
+ghost use Rattle.words.specs.Buffer.{used_of};
+ghost use Rattle.checks.specs.Given.{rules_of, given_in, file_in};
+ghost use Rattle.rule_paths.specs.Needs.{Roomy};
+ghost use Rattle.match_node.specs.MatchNode.{matched_node, buffer_after, Answered};
 
 use answers::NodeMatch;
+use checks::Rules;
 use errors::Refusal;
-use resolved::check_and_resolve;
-use rule_match::Question;
-use rules::numbering;
-use rules::numbering::Found;
-use syntax::accessors;
+use fragments::pairs::Pairs;
+use preparing::MatchTables;
+use resolved::{Accepted, check_and_resolve};
+use rule_match::{Question, match_rule};
+use syntax::kinds::NODES;
+use trees::GivenFile;
 use words::buffer;
 
-// Whether the file has the node, and the range is one.
-fn is_askable(tree: &[u32], question: Question) -> bool
-    requires { WellFormed tree.now }
-    ensures { (text facts : List ℕ) → result ≡ (is_node_of (file_of tree.now text facts) question.node && is_range question.range) }
-{
-    let node = question.node;
-    let range = question.range;
-    if checks::is_reversed(range) {
-        return false;
-    }
-    if node < 16384 {
-        return accessors::is_node_at(tree, node, 1, 4095);
-    }
-    false
-}
-
-// 23, and then the match, of rules that resolve and a file whose facts have an index.
-fn match_asked(
-    directory: &[u32],
-    words: &[u32],
-    bytes: &[u8],
-    fact_bytes: usize,
-    tree: &[u32],
-    text: &[u8],
-    facts: &[u32],
-    file_index: &[u64],
+// 23, and then the match, of rules and a file that were accepted.
+fn match_asked<const N: usize>(
+    accepted: &Accepted<'_, N>,
     question: Question,
-    index: &mut [u64],
-    spare: &mut [u64],
-    paths: &mut [u32],
-    calls: &mut [u32],
-    marks: &mut [u32],
+    tables: &mut MatchTables<N>,
     out: &mut [u8],
-) -> NodeMatch
-    requires bytes_value { (stage_outcome TreesWithFacts fact_bytes (pairs directory.now words.now bytes.now) ≡ ok) × (any (map pair_fails (pairs directory.now words.now bytes.now)) ≡ false) }
-    requires all_roomy { AllRoomy words.now index.old spare.old paths.old calls.old × MarksRoomy words.now marks.old }
-    requires file_of { FileOf tree.now facts.now file_index.now × (length out.old ≤ 1048576) }
-    ensures value { result ≡ answer_by (asked_outcome (found_rule (rules_of directory.now words.now bytes.now fact_bytes) question.rule) (file_of tree.now text.now facts.now) question.range question.node) (length out.old) (found_match (rules_of directory.now words.now bytes.now fact_bytes) (file_of tree.now text.now facts.now) (found_rule (rules_of directory.now words.now bytes.now fact_bytes) question.rule) question.range question.node) }
-    ensures out_after { out.new ≡ filled out.old (bytes_by (asked_outcome (found_rule (rules_of directory.now words.now bytes.now fact_bytes) question.rule) (file_of tree.now text.now facts.now) question.range question.node) (length out.old) (found_match (rules_of directory.now words.now bytes.now fact_bytes) (file_of tree.now text.now facts.now) (found_rule (rules_of directory.now words.now bytes.now fact_bytes) question.rule) question.range question.node)) }
-{
-    match numbering::rule_at(directory, words, bytes, question.rule) {
-        Found::NoSuchRule => answers::refuse(Refusal::NoSuchNodeOrRule, out),
-        Found::At(rule) => {
-            if is_askable(tree, question) {
-                let r = rule_match::match_pair(
-                    directory, words, bytes, rule, tree, text, facts, file_index, question, index,
-                    spare, paths, calls, marks, out,
-                );
-                return answers::answer(r, out);
-            }
-            answers::refuse(Refusal::NoSuchNodeOrRule, out)
-        }
-    }
-}
-
-// All checks in turn, and then the match, in tables that are large enough and a buffer that is used whole.
-fn match_in(
-    directory: &[u32],
-    words: &[u32],
-    bytes: &[u8],
-    fact_bytes: usize,
-    tree: &[u32],
-    text: &[u8],
-    facts: &[u32],
-    question: Question,
-    index: &mut [u64],
-    spare: &mut [u64],
-    paths: &mut [u32],
-    calls: &mut [u32],
-    marks: &mut [u32],
-    file_index: &mut [u64],
-    out: &mut [u8],
-) -> NodeMatch
-    requires all_roomy { AllRoomy words.now index.old spare.old paths.old calls.old × MarksRoomy words.now marks.old }
-    requires facts_in_bounds { length facts.now / 4 ≤ 16383 → (length facts.now / 4 ≤ length file_index.old) × (length facts.now / 4 ≤ length spare.old) }
-    requires out_len_bound { length out.old ≤ 1048576 }
-    ensures value { result ≡ matched_node (rules_of directory.now words.now bytes.now fact_bytes) (file_of tree.now text.now facts.now) question.rule question.range question.node (length out.old) }
-    ensures out_after { out.new ≡ buffer_after (rules_of directory.now words.now bytes.now fact_bytes) (file_of tree.now text.now facts.now) question.rule question.range question.node out.old }
-{
-    match check_and_resolve(
-        directory, words, bytes, fact_bytes, tree, text, facts, index, spare, paths, calls,
-        file_index,
-    ) {
-        Ok(()) => match_asked(
-            directory, words, bytes, fact_bytes, tree, text, facts, file_index, question, index,
-            spare, paths, calls, marks, out,
-        ),
-        Err(r) => answers::refuse(r, out),
-    }
-}
-
-// In tables for all that trees may have.
-fn match_many(
-    directory: &[u32],
-    words: &[u32],
-    bytes: &[u8],
-    fact_bytes: usize,
-    tree: &[u32],
-    text: &[u8],
-    facts: &[u32],
-    question: Question,
-    out: &mut [u8],
-) -> NodeMatch
+) -> Result<Option<NodeMatch>, Refusal>
     requires { length out.old ≤ 1048576 }
-    ensures value { result ≡ matched_node (rules_of directory.now words.now bytes.now fact_bytes) (file_of tree.now text.now facts.now) question.rule question.range question.node (length out.old) }
-    ensures out_after { out.new ≡ buffer_after (rules_of directory.now words.now bytes.now fact_bytes) (file_of tree.now text.now facts.now) question.rule question.range question.node out.old }
+    ensures { Answered accepted.now.rules (file_in accepted.now.file) question.rule question.range question.node out.old result out.new }
 {
-    let mut index = [0u64; 16384];
-    let mut spare = [0u64; 16384];
-    let mut paths = [0u32; 16384];
-    let mut calls = [0u32; 16384];
-    let mut marks = [0u32; 65536];
-    let mut file_index = [0u64; 16384];
-    match_in(
-        directory,
-        words,
-        bytes,
-        fact_bytes,
-        tree,
-        text,
-        facts,
-        question,
-        &mut index,
-        &mut spare,
-        &mut paths,
-        &mut calls,
-        &mut marks,
-        &mut file_index,
+    let Some(rule) = accepted.rules.rule(question.rule) else {
+        return answers::refuse(Refusal::NoSuchNodeOrRule, out);
+    };
+    if checks::is_reversed(question.range) {
+        return answers::refuse(Refusal::NoSuchNodeOrRule, out);
+    }
+    if !accepted.file.tree.is_node_at(question.node, NODES) {
+        return answers::refuse(Refusal::NoSuchNodeOrRule, out);
+    }
+    let state = match_rule(
+        &rule,
+        &accepted.file,
+        question.node,
+        question.range,
+        tables,
         out,
-    )
+    );
+    answers::answer(state, out)
 }
 
-// In tables for few words: clearing those for all that trees may have takes longer than matching most nodes.
-fn match_few(
-    directory: &[u32],
-    words: &[u32],
-    bytes: &[u8],
-    fact_bytes: usize,
-    tree: &[u32],
-    text: &[u8],
-    facts: &[u32],
+// All checks in turn, and then the match, in tables for N elements and an index of M facts of the file, and in a buffer that is used whole.
+fn match_in<const N: usize, const M: usize>(
+    rules: Rules<'_>,
+    file: GivenFile<'_>,
     question: Question,
     out: &mut [u8],
-) -> NodeMatch
-    requires { (length words.now ≤ 3072) × (length facts.now ≤ 8192) × (length out.old ≤ 1048576) }
-    ensures value { result ≡ matched_node (rules_of directory.now words.now bytes.now fact_bytes) (file_of tree.now text.now facts.now) question.rule question.range question.node (length out.old) }
-    ensures out_after { out.new ≡ buffer_after (rules_of directory.now words.now bytes.now fact_bytes) (file_of tree.now text.now facts.now) question.rule question.range question.node out.old }
+) -> Result<Option<NodeMatch>, Refusal>
+    requires few { N ≤ 16384 }
+    requires few_facts { M ≤ 16384 }
+    requires room { Roomy N rules.pairs.words }
+    requires index_len { length file.facts.now / 4 ≤ 16383 → length file.facts.now / 4 ≤ M }
+    requires out_len { length out.old ≤ 1048576 }
+    ensures value { result ≡ matched_node rules.entry (given_in file.entry) question.rule question.range question.node (length out.old) }
+    ensures out_after { out.new ≡ buffer_after rules.entry (given_in file.entry) question.rule question.range question.node out.old }
 {
-    let mut index = [0u64; 1024];
-    let mut spare = [0u64; 2048];
-    let mut paths = [0u32; 1024];
-    let mut calls = [0u32; 1024];
-    let mut marks = [0u32; 4096];
-    let mut file_index = [0u64; 2048];
-    match_in(
-        directory,
-        words,
-        bytes,
-        fact_bytes,
-        tree,
-        text,
-        facts,
-        question,
-        &mut index,
-        &mut spare,
-        &mut paths,
-        &mut calls,
-        &mut marks,
-        &mut file_index,
-        out,
-    )
+    let mut tables: MatchTables<N> = MatchTables::new();
+    let mut index = [0u64; M];
+    match check_and_resolve(rules, file, &mut tables.resolving, &mut index) {
+        Ok(accepted) => match_asked(&accepted, question, &mut tables, out),
+        Err(refusal) => answers::refuse(refusal, out),
+    }
 }
 
-// In the used part of a buffer.
+// In tables for few words, where these are enough: clearing those for all that trees may have takes longer than matching most nodes.
 fn match_used(
     directory: &[u32],
     words: &[u32],
     bytes: &[u8],
     fact_bytes: usize,
-    tree: &[u32],
-    text: &[u8],
-    facts: &[u32],
+    file: GivenFile<'_>,
     question: Question,
     out: &mut [u8],
-) -> NodeMatch
+) -> Result<Option<NodeMatch>, Refusal>
     requires { length out.old ≤ 1048576 }
-    ensures value { result ≡ matched_node (rules_of directory.now words.now bytes.now fact_bytes) (file_of tree.now text.now facts.now) question.rule question.range question.node (length out.old) }
-    ensures out_after { out.new ≡ buffer_after (rules_of directory.now words.now bytes.now fact_bytes) (file_of tree.now text.now facts.now) question.rule question.range question.node out.old }
+    ensures value { result ≡ matched_node (rules_of directory.now words.now bytes.now fact_bytes) (given_in file.entry) question.rule question.range question.node (length out.old) }
+    ensures out_after { out.new ≡ buffer_after (rules_of directory.now words.now bytes.now fact_bytes) (given_in file.entry) question.rule question.range question.node out.old }
 {
-    if (words.len() <= 3072) & (facts.len() <= 8192) {
-        return match_few(
-            directory, words, bytes, fact_bytes, tree, text, facts, question, out,
-        );
+    let rules = Rules {
+        pairs: Pairs::new(directory, words, bytes),
+        fact_bytes,
+    };
+    if (words.len() <= 3072) & (file.facts.len() <= 8192) {
+        return match_in::<1024, 2048>(rules, file, question, out);
     }
-    match_many(
-        directory, words, bytes, fact_bytes, tree, text, facts, question, out,
-    )
+    match_in::<16384, 16384>(rules, file, question, out)
 }
 
 // Matching one node.
+#[tactic(auto, using(words::proofs::BufferLaws::used_small, words::proofs::BufferLaws::used_within, crate::proofs::AskedLaws::buffer_part))]
 pub fn match_node(
     directory: &[u32],
     words: &[u32],
     bytes: &[u8],
     fact_bytes: usize,
-    tree: &[u32],
-    text: &[u8],
-    facts: &[u32],
+    file: GivenFile<'_>,
     question: Question,
     out: &mut [u8],
-) -> NodeMatch
-    ensures value { result ≡ matched_node (rules_of directory.now words.now bytes.now fact_bytes) (file_of tree.now text.now facts.now) question.rule question.range question.node (used_of (length out.old)) }
-    ensures out_after { out.new ≡ buffer_after (rules_of directory.now words.now bytes.now fact_bytes) (file_of tree.now text.now facts.now) question.rule question.range question.node out.old }
+) -> Result<Option<NodeMatch>, Refusal>
+    ensures value { result ≡ matched_node (rules_of directory.now words.now bytes.now fact_bytes) (given_in file.entry) question.rule question.range question.node (used_of (length out.old)) }
+    ensures out_after { out.new ≡ buffer_after (rules_of directory.now words.now bytes.now fact_bytes) (given_in file.entry) question.rule question.range question.node out.old }
 {
     let end = buffer::used(out.len());
     match_used(
@@ -246,9 +115,7 @@ pub fn match_node(
         words,
         bytes,
         fact_bytes,
-        tree,
-        text,
-        facts,
+        file,
         question,
         &mut out[..end],
     )

@@ -1,3 +1,2 @@
--- Laws of the definitions of specs/, for this crate and those above.
-pub mod TableLaws
+-- What the answer of an attempt tells of its row.
 pub mod RowLaws

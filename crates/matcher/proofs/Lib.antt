@@ -1,5 +1,5 @@
 -- Laws of the definitions of specs/, for the proofs of this crate and of those above.
-pub mod MarkLaws
-pub mod FactLaws
+pub mod PlaceholderLaws
 pub mod NameLaws
+pub mod FactLaws
 pub mod TokenLaws

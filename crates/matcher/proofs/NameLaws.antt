@@ -1,91 +1,54 @@
--- The element of a number without what is below it or follows it, which is the three words at three times the number.
+-- The first three words of a part are its first element without what is below it or follows it.
 -- Assumes nothing.
-use mathlib.Core.Path.{◌≡◌, sym, subst, ◌∙◌}
-use mathlib.Core.Bool.{true, false, false≢true}
-use mathlib.Core.List.{List, [], ◌∷◌, ◌++◌}
-use Prim.Native.Nat.{ℕ, ◌+◌, ◌-◌, ◌*◌, ◌≤◌, ◌<◌}
+use mathlib.Core.Path.{◌≡◌, refl, sym, ap, ◌∙◌}
+use mathlib.Core.Bool.{Bool, true, false}
+use mathlib.Core.List.{List, [], ◌∷◌}
+use Prim.Native.Nat.{ℕ, min, ◌+◌}
 use native.Mathlib.Omega.{arith}
-use lib.ListN.{take}
-use Rattle.words.specs.Fields.{word_of, is_a_token, syntax_kind, start_of, end_of}
-use Rattle.words.specs.Texts.{part}
+use lib.ListN.{length, take}
+use lib.Seq.{take_all}
+use Rattle.std.proofs.Math.Nat.{min-eq_left, min-eq_right}
+use Rattle.words.specs.Fields.{is_a_token}
 use Rattle.words.proofs.TestLaws.{low_or}
-use Rattle.words.proofs.TextLaws.{part_in, part_outside}
 use Rattle.syntax.specs.Parts.{span, child_words, rest_words}
-use Rattle.syntax.specs.Trees.{Elems, none, token, node, size, words, element_word, elems, tree}
-use Rattle.syntax.specs.Accessors.{some, element_at}
-use Rattle.syntax.specs.Checks.{WellFormed}
+use Rattle.syntax.specs.Trees.{Elems, none, token, node, elems}
+use Rattle.syntax.specs.Accessors.{by_itself}
 use Rattle.syntax.proofs.PartLaws.{rest_shorter, children_shorter}
 use Rattle.syntax.proofs.TreeLaws.{elems_end, elems-token, elems_node}
-use Rattle.syntax.proofs.Words.{token_good, node_good, tiles_order, token_is, token-kind, start_is, end_is, node_not, node_kind}
-use Rattle.syntax.proofs.Places.{Good, tree-size, tree-stands, tree-none}
 use Rattle.matcher.specs.FileFacts.{alone}
 
--- three words of an element are it alone
-three-token : (n w s e : ℕ) → is_a_token (w ∷ s ∷ e ∷ []) ≡ true → elems n (w ∷ s ∷ e ∷ []) ≡ token n (syntax_kind (w ∷ s ∷ e ∷ [])) (start_of (w ∷ s ∷ e ∷ [])) (end_of (w ∷ s ∷ e ∷ [])) none
-three-token n w s e t =
-    let l = w ∷ s ∷ e ∷ [] in
-    elems-token n l (omega arith) t ∙ rw (elems_end (n + 1) (rest_words l) (rest_shorter l (omega arith)))
-
-three_node : (n w s e : ℕ) → is_a_token (w ∷ s ∷ e ∷ []) ≡ false → elems n (w ∷ s ∷ e ∷ []) ≡ node n (syntax_kind (w ∷ s ∷ e ∷ [])) (start_of (w ∷ s ∷ e ∷ [])) (end_of (w ∷ s ∷ e ∷ [])) none none
-three_node n w s e t =
-    let l = w ∷ s ∷ e ∷ [] in
-    elems_node n l (omega arith) t ∙ rw (
-      elems_end (n + 1) (child_words l) (children_shorter l (omega arith)),
-      elems_end (n + span l) (rest_words l) (rest_shorter l (omega arith)),
+three_by : (i a b c : ℕ) (m : List ℕ) (t : Bool) → is_a_token (a ∷ b ∷ c ∷ m) ≡ t → elems i (a ∷ b ∷ c ∷ []) ≡ alone (elems i (a ∷ b ∷ c ∷ m))
+three_by i a b c m true t =
+    let l = a ∷ b ∷ c ∷ [] in
+    rw (elems-token i l (omega arith) t, elems-token i (a ∷ b ∷ c ∷ m) (omega arith) t, elems_end (i + 1) (rest_words l) (rest_shorter l (omega arith)))
+three_by i a b c m false t =
+    let l = a ∷ b ∷ c ∷ [] in
+    rw (
+      elems_node i l (omega arith) t,
+      elems_node i (a ∷ b ∷ c ∷ m) (omega arith) t,
+      elems_end (i + 1) (child_words l) (children_shorter l (omega arith)),
+      elems_end (i + span l) (rest_words l) (rest_shorter l (omega arith)),
     )
 
-alone-token : (n k s e : ℕ) (r : Elems) (more : List ℕ) → Good n (token n k s e r) → elems n (take 3 (words (token n k s e r) ++ more)) ≡ token n k s e none
-unfolding words
-alone-token n k s e r more g =
-    let h = token_good n k s e g.from g.to r g.inside g.good in
-    let o = tiles_order r e g.to h.inside h.good in
-    let b : e < 268435456 = omega (arith, g.small) in
-    let a : s < 268435456 = omega (arith, h.full) in
-    three-token n (element_word 2 k 1) (word_of 3 s) (word_of 4 e) (token_is k s e [] h.high h.full b) ∙ rw (
-      token-kind k s e [] h.high h.full b,
-      start_is (element_word 2 k 1) s e [] a b,
-      end_is (element_word 2 k 1) s e [] a b,
-    )
+three : (i : ℕ) (l : List ℕ) → elems i (take 3 l) ≡ alone (elems i l)
+three i [] = rw (elems_end i [] (omega arith))
+three i (a ∷ []) = rw (elems_end i (a ∷ []) (omega arith))
+three i (a ∷ (b ∷ [])) = rw (elems_end i (a ∷ b ∷ []) (omega arith))
+three i (a ∷ (b ∷ (c ∷ m))) = three_by i a b c m (is_a_token (a ∷ b ∷ c ∷ m)) refl
 
-alone_node : (n k s e : ℕ) (cs r : Elems) (more : List ℕ) → Good n (node n k s e cs r) → elems n (take 3 (words (node n k s e cs r) ++ more)) ≡ node n k s e none none
-unfolding words size
-alone_node n k s e cs r more g =
-    let h = node_good n k s e g.from g.to cs r g.inside g.good in
-    let o = tiles_order r e g.to h.inside h.good in
-    let b : e < 268435456 = omega (arith, g.small) in
-    let a : s < 268435456 = omega (arith, h.order) in
-    let f : 1 + size cs < 65536 = omega (arith, g.few) in
-    three_node n (element_word 1 k (1 + size cs)) (word_of 3 s) (word_of 4 e) (node_not k (1 + size cs) s e [] h.high f) ∙ rw (
-      node_kind k (1 + size cs) s e [] h.high f,
-      start_is (element_word 1 k (1 + size cs)) s e [] a b,
-      end_is (element_word 1 k (1 + size cs)) s e [] a b,
-    )
+alone_itself : (c : Elems) → alone (by_itself c) ≡ alone c
+alone_itself none = refl
+alone_itself (token i k s e r) = refl
+alone_itself (node i k s e cs r) = refl
 
-alone_is : (n : ℕ) (c : Elems) (more : List ℕ) → Good n c → some c ≡ true → elems n (take 3 (words c ++ more)) ≡ alone c
-alone_is n none more g t = absurd (false≢true t)
-alone_is n (token j k s e r) more g t =
-    subst (λ (x : ℕ). elems n (take 3 (words (token x k s e r) ++ more)) ≡ token x k s e none) (sym g.numbered.0)
-    (alone-token n k s e r more (subst (λ (x : ℕ). Good n (token x k s e r)) g.numbered.0 g))
-alone_is n (node j k s e cs r) more g t =
-    subst (λ (x : ℕ). elems n (take 3 (words (node x k s e cs r) ++ more)) ≡ node x k s e none none) (sym g.numbered.0)
-    (alone_node n k s e cs r more (subst (λ (x : ℕ). Good n (node x k s e cs r)) g.numbered.0 g))
+take_min : (n : ℕ) (l : List ℕ) → take (min (length l) n) l ≡ take n l
+take_min n l =
+    low_or n (length l)
+    (λ h. let e : min (length l) n ≡ n = min-eq_right (omega arith) in rw e)
+    (λ h. let e : min (length l) n ≡ length l = min-eq_left h in rw (e, take_all (length l) l (omega arith), take_all n l h))
 
-module _ (l : List ℕ) (n : ℕ) (w : WellFormed l) where
-  inside : n < size (tree l) → elems n (part l (n * 3) (n * 3 + 3)) ≡ alone (element_at n (tree l))
-  inside h =
-      let ts = tree-size l w in
-      let q : n * 3 + 3 - n * 3 ≡ 3 = omega arith in
-      let g = tree-stands l n w h in
-      rw (part_in l (n * 3) (n * 3 + 3) (omega arith) (omega arith), q, g.are) (alone_is n (element_at n (tree l)) g.more g.good g.there)
+pub alone_at : (i k : ℕ) (l : List ℕ) (c : Elems) → k ≡ min (length l) 3 → by_itself (elems i l) ≡ by_itself c → elems i (take k l) ≡ alone c
+alone_at i k l c e f = rw (e, take_min 3 l) (three i l ∙ sym (alone_itself (elems i l)) ∙ ap alone f ∙ alone_itself c)
 
-  outside : size (tree l) ≤ n → elems n (part l (n * 3) (n * 3 + 3)) ≡ alone (element_at n (tree l))
-  outside h =
-      let ts = tree-size l w in
-      rw (
-        part_outside l (n * 3) (n * 3 + 3) (omega arith),
-        elems_end n [] (omega arith),
-        tree-none l n w h,
-      )
-
-  pub alone_at : elems n (part l (n * 3) (n * 3 + 3)) ≡ alone (element_at n (tree l))
-  alone_at = low_or n (size (tree l)) inside outside
+pub no_name : (i : ℕ) → elems i [] ≡ none
+no_name i = elems_end i [] (omega arith)

@@ -1,14 +1,17 @@
 -- Tokens: when two agree, and `attempt_match_token` of docs/src/src/matching.rs. What later requests change of comparing has a name of its
 -- own: `agree`, `same_name` and `same_stop` are over kind and text, `skips` is over a sheet.
 -- Assumes nothing.
-use Rattle.std.specs.Prelude.{ℕ, Bool, cond, ◌&&◌, ◌||◌, List, [], ◌∷◌, eqb}
+use Rattle.std.specs.Prelude.{◌≡◌, ℕ, Bool, true, false, cond, ◌&&◌, ◌||◌, List, [], ◌∷◌, Option, Some, None, eqb}
+use Rattle.std.specs.List.{list_any}
 use Rattle.words.specs.Texts.{same_text}
 use Rattle.syntax.specs.Trees.{Elems}
 use Rattle.syntax.specs.Accessors.{rest, text_of}
-use Rattle.siblings.specs.Siblings.{kind_of, is_a_token, is_comment, skip_trivia}
+use Rattle.syntax.specs.Siblings.{kind_of, is_a_token, is_comment, skip_trivia}
+use Rattle.syntax.specs.Views.{elems_of, IsWithin}
+use Rattle.syntax.specs.declared.parts.Part.{Part}
 use Rattle.captures.specs.Attempts.{Noted, Attempt, matched}
 use Rattle.matcher.specs.declared.token_matching.Skip.{Skip}
-use Rattle.matcher.specs.declared.token_matching.Sheet.{Sheet}
+use Rattle.matcher.specs.Matcher.{Matcher}
 
 -- two tokens: "p.kind() != code.kind() || p.text() != code.text()"
 abbrev pub agree : ℕ → List ℕ → ℕ → List ℕ → Bool
@@ -22,26 +25,26 @@ same_name k t k' t' = same_text t t'
 abbrev pub same_stop : ℕ → List ℕ → ℕ → List ℕ → Bool
 same_stop k t k' t' = same_text t t'
 
--- A separator may stand, or be left out, right before a closer: pairs of token kinds. No token is of kind 0, so a pair of 0 is none.
+-- A separator may stand, or be left out, right before a closer: pairs of token kinds.
 abbrev pub is_pair : Skip → ℕ → ℕ → Bool
 is_pair q k k' = eqb q.separator k && eqb q.closer k'
 
-abbrev pub skips : Sheet → ℕ → ℕ → Bool
-skips s k k' = is_pair s.first k k' || is_pair s.second k k' || is_pair s.third k k' || is_pair s.fourth k k'
+abbrev pub skips : List Skip → ℕ → ℕ → Bool
+skips sheet k k' = list_any (λ q. is_pair q k k') sheet
 
 -- COMMA before R_PAREN, R_CURLY, R_BRACK: `is_closing_token`
 abbrev pub skip : ℕ → ℕ → Skip
 skip k k' = record { separator = k; closer = k' }
 
-abbrev pub comma_sheet : Sheet
-comma_sheet = record { first = skip 4 5; second = skip 4 6; third = skip 4 7; fourth = skip 0 0 }
+abbrev pub comma_sheet : List Skip
+comma_sheet = skip 4 5 ∷ skip 4 6 ∷ skip 4 7 ∷ []
 
 -- "If the code has a comma and the pattern is about to close something, then accept the comma without advancing the pattern"
-abbrev pub is_extra : Sheet → Elems → Elems → Bool
+abbrev pub is_extra : List Skip → Elems → Elems → Bool
 is_extra s p c = is_a_token p && skips s (kind_of c) (kind_of p)
 
 -- "Conversely, if the pattern has a comma and the code doesn't, skip that part of the pattern"
-abbrev pub past_separator : Sheet → Elems → Elems → Elems
+abbrev pub past_separator : List Skip → Elems → Elems → Elems
 past_separator s p c = cond (is_a_token p && skips s (kind_of p) (kind_of c)) (skip_trivia (rest p)) p
 
 -- "Consume an element from the pattern and make sure it matches", with the rule's text and the file's
@@ -50,11 +53,17 @@ is_same_token code text p c = is_a_token p && agree (kind_of p) (text_of code p)
 
 -- `attempt_match_token` of a token that is no trivia, from the pattern's next element that is none: whether it matches, and what is left of
 -- the pattern then
-abbrev pub matches_token : Sheet → List ℕ → List ℕ → Elems → Elems → Bool
+abbrev pub matches_token : List Skip → List ℕ → List ℕ → Elems → Elems → Bool
 matches_token s code text p c = is_extra s p c || is_same_token code text (past_separator s p c) c
 
-abbrev pub after_token : Sheet → Elems → Elems → Elems
+abbrev pub after_token : List Skip → Elems → Elems → Elems
 after_token s p c = cond (is_extra s p c) p (rest (past_separator s p c))
+
+-- What the code gives of a token: what is left of the pattern, or nothing where it does not match.
+abbrev pub TokenIs : Matcher → Part → Part → Option Part → Type 0
+TokenIs x p c None = matches_token x.sheet x.code x.text (elems_of p) (elems_of c) ≡ false
+TokenIs x p c (Some q) =
+    (matches_token x.sheet x.code x.text (elems_of p) (elems_of c) ≡ true) × (elems_of q ≡ after_token x.sheet (elems_of p) (elems_of c)) × IsWithin q p
 
 -- `record_ignored_comments`
 abbrev pub note : List ℕ → Elems → Attempt

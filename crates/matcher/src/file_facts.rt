@@ -1,97 +1,79 @@
 // What the file's facts say, by element.
-ghost use Rattle.std.specs.Prelude.{◌≡◌, ℕ};
-ghost use Rattle.syntax.specs.Trees.{elems, tree};
-ghost use Rattle.facts.specs.Keys.{Indexed};
-ghost use Rattle.matcher.specs.FileFacts.{resolves_to, calls_function, takes_self, self_kind_at, derefs, name_token, FileOf};
+ghost use Rattle.std.specs.Prelude.{◌≡◌};
+ghost use Rattle.syntax.specs.Views.{elems_of, tree_of};
+ghost use Rattle.captures.specs.Effects.{self_kind};
+ghost use Rattle.matcher.specs.FileFacts.{resolves_to, calls_function, takes_self, self_kind_at, derefs, name_token};
 
-use facts::index;
-use words::slices;
+use crate::Matcher;
+use captures::SelfKind;
+use facts::Sort;
+use syntax::parts::Part;
 
-// Whether an expression has a type after some dereferences, and after how many.
-#[derive(Clone, Copy)]
-pub struct Derefs {
-    pub fits: bool,
-    pub count: u32,
-}
-
-// Whether a path resolves to something.
-pub fn resolves_to(facts: &[u32], index: &[u64], element: usize, resolution: u32) -> bool
-    requires { Indexed facts.now index.now }
-    ensures { result ≡ resolves_to facts.now element resolution }
-{
-    let place = index::find(facts, index, 0, element, 0);
-    if place < facts.len() / 4 {
-        return index::value(facts, place, 1) == resolution;
+impl<'a> Matcher<'a> {
+    // Whether a path resolves to something.
+    pub fn resolves_to(&self, element: usize, resolution: u32) -> bool
+        ensures { result ≡ resolves_to self.now.facts.now element resolution }
+    {
+        self.facts
+            .first(Sort::CodePath, element)
+            .is_some_and(|fact| fact.first == resolution)
     }
-    false
-}
 
-// Whether a method call calls a function.
-pub fn calls_function(facts: &[u32], index: &[u64], element: usize, function: u32) -> bool
-    requires { Indexed facts.now index.now }
-    ensures { result ≡ calls_function facts.now element function }
-{
-    let place = index::find(facts, index, 2, element, 0);
-    if place < facts.len() / 4 {
-        return index::value(facts, place, 1) == function;
+    // Whether a method call calls a function.
+    pub fn calls_function(&self, element: usize, function: u32) -> bool
+        ensures { result ≡ calls_function self.now.facts.now element function }
+    {
+        self.facts
+            .first(Sort::MethodCall, element)
+            .is_some_and(|fact| fact.first == function)
     }
-    false
-}
 
-// Whether that function takes self.
-pub fn takes_self(facts: &[u32], index: &[u64], element: usize) -> bool
-    requires { Indexed facts.now index.now }
-    ensures { result ≡ takes_self facts.now element }
-{
-    index::value(facts, index::find(facts, index, 2, element, 0), 2) == 1
-}
+    // Whether that function takes self.
+    pub fn takes_self(&self, element: usize) -> bool
+        ensures { result ≡ takes_self self.now.facts.now element }
+    {
+        self.facts
+            .first(Sort::MethodCall, element)
+            .is_some_and(|fact| fact.second == 1)
+    }
 
-// How it takes self: 0 owned, 1 `&`, 2 `&mut`.
-pub fn self_kind(facts: &[u32], index: &[u64], element: usize) -> u32
-    requires { Indexed facts.now index.now }
-    ensures { result ≡ self_kind_at facts.now element }
-{
-    index::value(facts, index::find(facts, index, 2, element, 0), 3)
-}
-
-// How often an expression is dereferenced until it has a type.
-pub fn check_expr_type(facts: &[u32], index: &[u64], element: usize, wanted: u32) -> Derefs
-    requires { Indexed facts.now index.now }
-    ensures { result ≡ derefs facts.now element wanted }
-{
-    let n = (facts.len() / 4) as u32;
-    let mut step: u32 = 0;
-    while step < n {
-        let place = index::find(facts, index, 3, element, step);
-        if facts.len() / 4 <= place {
-            return Derefs {
-                fits: false,
-                count: 0,
-            };
+    // How it takes self.
+    pub fn self_kind(&self, element: usize) -> SelfKind
+        ensures { result ≡ self_kind_at self.now.facts.now element }
+    {
+        match self.facts.first(Sort::MethodCall, element) {
+            Some(fact) => SelfKind::from(fact.third),
+            None => SelfKind::Owned,
         }
-        if index::value(facts, place, 2) == wanted {
-            return Derefs {
-                fits: true,
-                count: step,
-            };
-        }
-        step += 1;
     }
-    Derefs {
-        fits: false,
-        count: 0,
-    }
-}
 
-// The part of a record field's name; empty where it has none.
-pub fn field_name<'a>(words: &'a [u32], facts: &[u32], index: &[u64], element: usize) -> &'a [u32]
-    requires { FileOf words.now facts.now index.now }
-    ensures { (k : ℕ) × (elems k result.now ≡ name_token facts.now (tree words.now) element) }
-{
-    let place = index::find(facts, index, 5, element, 0);
-    if place < facts.len() / 4 {
-        let number = index::value(facts, place, 1) as usize;
-        return slices::part_of(words, number * 3, number * 3 + 3);
+    // How often an expression is dereferenced until it has a type.
+    #[tactic(auto, using(crate::proofs::FactLaws::deref_start, crate::proofs::FactLaws::deref_step, crate::proofs::FactLaws::deref_end))]
+    pub fn check_expr_type(&self, element: usize, wanted: u32) -> Option<u32>
+        ensures { result ≡ derefs self.now.facts.now element wanted }
+    {
+        for step in 0..self.facts.count() as u32 {
+            let fact = self.facts.find(Sort::Expression, element, step)?;
+            if fact.second == wanted {
+                return Some(step);
+            }
+        }
+        None
     }
-    &words[..0]
+
+    // A record field's name; empty where it has none.
+    #[tactic(auto, using(crate::proofs::NameLaws::alone_at, crate::proofs::NameLaws::no_name))]
+    pub fn field_name(&self, element: usize) -> Part<'a>
+        ensures { elems_of result ≡ name_token self.now.facts.now (tree_of self.now.tree) element }
+    {
+        let Some(fact) = self.facts.first(Sort::RecordField, element) else {
+            return Part::new(&[]);
+        };
+        let name = self.tree.at(fact.first as usize);
+        let end = name.words.len().min(3);
+        Part {
+            words: &name.words[..end],
+            number: name.number,
+        }
+    }
 }

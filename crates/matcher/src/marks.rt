@@ -1,130 +1,108 @@
-// What a rule says of its pattern's elements, four words each, and of its placeholders.
-ghost use Rattle.std.specs.Prelude.{◌≡◌, true, List, ℕ, ◌<◌, ◌≤◌, length};
-ghost use Rattle.syntax.specs.Trees.{elems};
-ghost use Rattle.matcher.specs.Matcher.{matcher_of, is_placeholder, has_placeholder_name, mark, slot_in, path_in, call_in, allows_in, is_resolved, resolution_of, is_a_call, function_of, is_typed, type_of};
+// What a rule says of its pattern's elements and of its placeholders.
+ghost use Rattle.std.specs.Prelude.{◌≡◌, ◌<◌, ◌≤◌, IfSome};
+ghost use Rattle.matcher.specs.Numbers.{word_of};
 
-use crate::token_matching::Sheet;
-use syntax::accessors;
-use words::fields;
+use facts::Call;
 
-// The sheet of separators, and of each placeholder whether it wants a literal and whether it wants another thing.
+// What a rule says of an element of its pattern: which placeholder it is, what it resolves to as a path, and its function and qualifier type
+// as a call. Each is a word: 0 where there is nothing, else one more than the number.
 #[derive(Clone, Copy)]
-pub struct Context {
-    pub sheet: Sheet,
-    pub literal: [bool; 8],
-    pub other: [bool; 8],
+pub struct Mark {
+    placeholder: u32,
+    path: u32,
+    function: u32,
+    qualifier: u32,
+    pub ghost slot_bound: { placeholder ≤ 8 },
 }
 
-// Word k of an element.
-fn word_of(marks: &[u32], element: usize, k: usize) -> u32
-    requires { (element < 65536) × (k < 4) }
-    ensures { result ≡ mark marks.now element k }
+// The word of a number.
+fn word_of(number: Option<u32>) -> u32
+    requires { IfSome number (λ n. n < u32.MAX) }
+    ensures { result ≡ word_of number }
 {
-    fields::word(marks, 4 * element + k)
-}
-
-// Which placeholder an element is; 8 where it is none.
-pub fn slot_at(marks: &[u32], element: usize) -> usize
-    requires { element < 65536 }
-    ensures { result ≡ slot_in marks.now element }
-{
-    let w = word_of(marks, element, 0);
-    if w == 0 {
-        return 8;
+    match number {
+        Some(n) => n + 1,
+        None => 0,
     }
-    (w - 1) as usize
 }
 
-// Whether the first of the pattern's siblings is a placeholder.
-pub fn is_placeholder(p: &[u32], marks: &[u32], pe: usize) -> bool
-    requires { pe < 65536 }
-    ensures value { (rule file words facts : List ℕ) (cx : Context) → result ≡ is_placeholder (matcher_of rule file marks.now words facts cx) (elems pe p.now) }
-    ensures in_bounds { result ≡ true → (3 ≤ length p.now) × (slot_in marks.now pe < 8) }
-{
-    if p.len() < 3 {
-        return false;
-    }
-    slot_at(marks, pe) < 8
-}
+impl Mark {
+    ghost use Rattle.matcher.specs.Marks.{slot_in, path_in, call_in};
 
-// Whether it is a node whose first child is one.
-pub fn has_placeholder_name(q: &[u32], marks: &[u32], qe: usize) -> bool
-    requires { (qe < 65535) × (3 ≤ length q.now) }
-    ensures { (rule file words facts : List ℕ) (cx : Context) → result ≡ has_placeholder_name (matcher_of rule file marks.now words facts cx) (elems qe q.now) }
-{
-    if accessors::is_node_in(q, 1, 4095) {
-        return is_placeholder(siblings::children(q), marks, qe + 1);
-    }
-    false
-}
+    // An element of which a rule says nothing.
+    pub const NONE: Mark = Mark {
+        placeholder: 0,
+        path: 0,
+        function: 0,
+        qualifier: 0,
+    };
 
-// Whether an element is a resolved path.
-pub fn is_resolved(marks: &[u32], element: usize) -> bool
-    requires { element < 65536 }
-    ensures { result ≡ is_resolved (path_in marks.now element) }
-{
-    word_of(marks, element, 1) != 0
-}
-
-// What it resolves to.
-pub fn resolution_at(marks: &[u32], element: usize) -> u32
-    requires { element < 65536 }
-    ensures { result ≡ resolution_of (path_in marks.now element) }
-{
-    let w = word_of(marks, element, 1);
-    if w == 0 {
-        return 0;
-    }
-    w - 1
-}
-
-// Whether an element is a call that UFCS may match.
-pub fn is_call(marks: &[u32], element: usize) -> bool
-    requires { element < 65536 }
-    ensures { result ≡ is_a_call (call_in marks.now element) }
-{
-    word_of(marks, element, 2) != 0
-}
-
-// Its function.
-pub fn function_at(marks: &[u32], element: usize) -> u32
-    requires { element < 65536 }
-    ensures { result ≡ function_of (call_in marks.now element) }
-{
-    let w = word_of(marks, element, 2);
-    if w == 0 {
-        return 0;
-    }
-    w - 1
-}
-
-// Whether it has a qualifier type.
-pub fn is_typed(marks: &[u32], element: usize) -> bool
-    requires { element < 65536 }
-    ensures { result ≡ is_typed (call_in marks.now element) }
-{
-    (word_of(marks, element, 2) != 0) & (word_of(marks, element, 3) != 0)
-}
-
-// Its qualifier type.
-pub fn type_at(marks: &[u32], element: usize) -> u32
-    requires { element < 65536 }
-    ensures { result ≡ type_of (call_in marks.now element) }
-{
-    if is_typed(marks, element) {
-        let w = word_of(marks, element, 3);
-        if w == 0 {
-            return 0;
+    // The mark of what a rule says of an element.
+    pub fn new(placeholder: Option<usize>, path: Option<u32>, call: Option<Call>) -> Mark
+        requires slot_bound { IfSome placeholder (λ slot. slot < 8) }
+        requires path_bound { IfSome path (λ resolution. resolution < u32.MAX) }
+        requires call_bound { IfSome call (λ c. (c.function < u32.MAX) × IfSome c.qualifier (λ q. q < u32.MAX)) }
+        ensures placeholder { slot_in result ≡ placeholder }
+        ensures path { path_in result ≡ path }
+        ensures call { call_in result ≡ call }
+    {
+        let (function, qualifier) = match call {
+            Some(call) => (call.function + 1, word_of(call.qualifier)),
+            None => (0, 0),
+        };
+        Mark {
+            placeholder: match placeholder {
+                Some(slot) => slot as u32 + 1,
+                None => 0,
+            },
+            path: word_of(path),
+            function,
+            qualifier,
         }
-        return w - 1;
     }
-    0
+
+    // Which placeholder the element is.
+    pub fn placeholder(self) -> Option<usize>
+        ensures value { result ≡ slot_in self }
+        ensures in_bounds { IfSome result (λ slot. slot < 8) }
+    {
+        let slot = self.placeholder.checked_sub(1)?;
+        Some(slot as usize)
+    }
+
+    // What it resolves to as a path.
+    pub fn path(self) -> Option<u32>
+        ensures { result ≡ path_in self }
+    {
+        self.path.checked_sub(1)
+    }
+
+    // What it is as a call that UFCS may match.
+    pub fn call(self) -> Option<Call>
+        ensures { result ≡ call_in self }
+    {
+        let function = self.function.checked_sub(1)?;
+        Some(Call {
+            function,
+            qualifier: self.qualifier.checked_sub(1),
+        })
+    }
 }
 
-// Whether a placeholder's constraints allow code that is, or is not, a literal.
-pub fn allows(cx: Context, slot: usize, is_literal: bool) -> bool
-    requires { slot < 8 }
-    ensures { result ≡ allows_in cx slot is_literal }
-{
-    (!cx.literal[slot] | is_literal) & (!cx.other[slot] | !is_literal)
+// Whether a placeholder's constraints want a literal, and whether they want another thing.
+#[derive(Clone, Copy, Debug, PartialEq, Eq)]
+pub struct Limit {
+    pub literal: bool,
+    pub other: bool,
+}
+
+impl Limit {
+    ghost use Rattle.matcher.specs.Marks.{allows};
+
+    // Whether they allow code that is, or is not, a literal.
+    pub fn allows(self, is_literal: bool) -> bool
+        ensures { result ≡ allows self is_literal }
+    {
+        (!self.literal | is_literal) & (!self.other | !is_literal)
+    }
 }

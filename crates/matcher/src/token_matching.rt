@@ -1,83 +1,50 @@
 // When two tokens agree, and `attempt_match_token` of docs/src/src/matching.rs.
-ghost use Rattle.std.specs.Prelude.{◌≡◌, true, ℕ, ◌+◌, ◌*◌, ◌≤◌, length, drop};
-ghost use Rattle.syntax.specs.Trees.{elems};
-ghost use Rattle.matcher.specs.Tokens.{agree, same_name, same_stop, is_pair, skips, comma_sheet, is_extra, past_separator, is_same_token, matches_token, after_token};
+ghost use Rattle.std.specs.Prelude.{◌≡◌};
+ghost use Rattle.syntax.specs.Views.{elems_of, IsWithin};
+ghost use Rattle.matcher.specs.Matcher.{matcher_of};
+ghost use Rattle.matcher.specs.Tokens.{agree, same_name, same_stop, skips, is_extra, past_separator, is_same_token, TokenIs};
 
-use syntax::accessors;
-use words::slices;
+use crate::Matcher;
+use syntax::kinds::{COMMA, R_BRACK, R_CURLY, R_PAREN};
+use syntax::parts::Part;
 
 // A separator that may stand, or be left out, right before a closer, by their kinds.
-#[derive(Clone, Copy)]
+#[derive(Clone, Copy, Debug, PartialEq, Eq)]
 pub struct Skip {
     pub separator: u32,
     pub closer: u32,
 }
 
-// Up to four of them; an unused one is 0.
-#[derive(Clone, Copy)]
-pub struct Sheet {
-    pub first: Skip,
-    pub second: Skip,
-    pub third: Skip,
-    pub fourth: Skip,
-}
-
-// Whether a token matches, and how many elements of the pattern it uses up.
-#[derive(Clone, Copy)]
-pub struct Token {
-    pub ok: bool,
-    pub passed: usize,
-}
-
 // A comma before `)`, `}` or `]`.
-pub fn comma_sheet() -> Sheet
-    ensures { result ≡ comma_sheet }
-{
-    Sheet {
-        first: Skip {
-            separator: 4,
-            closer: 5,
-        },
-        second: Skip {
-            separator: 4,
-            closer: 6,
-        },
-        third: Skip {
-            separator: 4,
-            closer: 7,
-        },
-        fourth: Skip {
-            separator: 0,
-            closer: 0,
-        },
-    }
-}
-
-// Whether two kinds are those of a pair.
-fn is_pair(pair: Skip, kind: u32, next: u32) -> bool
-    ensures { result ≡ is_pair pair kind next }
-{
-    (pair.separator == kind) & (pair.closer == next)
-}
+pub const COMMA_SHEET: [Skip; 3] = [
+    Skip {
+        separator: COMMA,
+        closer: R_PAREN,
+    },
+    Skip {
+        separator: COMMA,
+        closer: R_CURLY,
+    },
+    Skip {
+        separator: COMMA,
+        closer: R_BRACK,
+    },
+];
 
 // Whether a separator of one kind may stand, or be left out, before a closer of another.
-pub fn skips(sheet: Sheet, kind: u32, next: u32) -> bool
-    ensures { result ≡ skips sheet kind next }
+pub fn skips(sheet: &[Skip], kind: u32, next: u32) -> bool
+    ensures { result ≡ skips sheet.now kind next }
 {
-    is_pair(sheet.first, kind, next)
-        | is_pair(sheet.second, kind, next)
-        | is_pair(sheet.third, kind, next)
-        | is_pair(sheet.fourth, kind, next)
+    sheet
+        .iter()
+        .any(|pair| pair.separator == kind && pair.closer == next)
 }
 
 // Whether two tokens agree.
 pub fn agree(kind: u32, text: &[u8], other_kind: u32, other: &[u8]) -> bool
     ensures { result ≡ agree kind text.now other_kind other.now }
 {
-    if kind == other_kind {
-        return text == other;
-    }
-    false
+    kind == other_kind && text == other
 }
 
 // Whether the names of two record fields are the same.
@@ -94,66 +61,45 @@ pub fn same_stop(kind: u32, text: &[u8], other_kind: u32, other: &[u8]) -> bool
     text == other
 }
 
-// Whether the code's token is a separator that the pattern, about to close something, does without.
-fn is_extra(sheet: Sheet, p: &[u32], c: &[u32]) -> bool
-    ensures { (i j : ℕ) → result ≡ is_extra sheet (elems i p.now) (elems j c.now) }
-{
-    accessors::is_token_in(p, 1, 1023) & skips(sheet, siblings::kind_of(c), siblings::kind_of(p))
-}
-
-// How many elements of the pattern are passed where the code, about to close something, does without its separator.
-fn past_separator(sheet: Sheet, p: &[u32], c: &[u32]) -> usize
-    ensures result_in_bounds { result * 3 ≤ length p.now }
-    ensures by_index { (i j : ℕ) → elems (i + result) (drop (result * 3) p.now) ≡ past_separator sheet (elems i p.now) (elems j c.now) }
-{
-    if accessors::is_token_in(p, 1, 1023)
-        & skips(sheet, siblings::kind_of(p), siblings::kind_of(c))
+impl<'a> Matcher<'a> {
+    // Whether the code's token is a separator that the pattern, about to close something, does without.
+    fn is_extra(&self, p: Part, c: Part) -> bool
+        ensures { result ≡ is_extra self.now.sheet.now (elems_of p.entry) (elems_of c.entry) }
     {
-        let n = siblings::width(p);
-        return n + siblings::skip_trivia(siblings::behind(p, n));
+        p.is_token() && skips(self.sheet, c.kind(), p.kind())
     }
-    0
-}
 
-// Whether the pattern's next element is a token that agrees with the code's.
-fn is_same_token(rule: &[u8], file: &[u8], p: &[u32], c: &[u32]) -> bool
-    ensures { (i j : ℕ) → result ≡ is_same_token rule.now file.now (elems i p.now) (elems j c.now) }
-{
-    if accessors::is_token_in(p, 1, 1023) {
-        let at = accessors::range_of(p);
-        let other = accessors::range_of(c);
-        return agree(
-            siblings::kind_of(p),
-            slices::part_of(rule, at.start, at.end),
-            siblings::kind_of(c),
-            slices::part_of(file, other.start, other.end),
-        );
+    // What is left of the pattern behind its separator, where the code, about to close something, does without.
+    fn past_separator<'p>(&self, p: Part<'p>, c: Part) -> Part<'p>
+        ensures value { elems_of result ≡ past_separator self.now.sheet.now (elems_of p.entry) (elems_of c.entry) }
+        ensures result_in_bounds { IsWithin result p.entry }
+    {
+        if p.is_token() && skips(self.sheet, p.kind(), c.kind()) {
+            return p.rest().skip_trivia();
+        }
+        p
     }
-    false
-}
 
-// Matches a token of the code that is no trivia with the pattern's next element that is none.
-pub fn attempt_match_token(rule: &[u8], file: &[u8], sheet: Sheet, p: &[u32], c: &[u32]) -> Token
-    ensures passed_in_bounds { result.passed * 3 ≤ length p.now }
-    ensures by_index { (i j : ℕ) → result.ok ≡ matches_token sheet rule.now file.now (elems i p.now) (elems j c.now) }
-    ensures by_index_2 { result.ok ≡ true → ((i j : ℕ) → elems (i + result.passed) (drop (result.passed * 3) p.now) ≡ after_token sheet (elems i p.now) (elems j c.now)) }
-{
-    if is_extra(sheet, p, c) {
-        return Token {
-            ok: true,
-            passed: 0,
-        };
+    // Whether the pattern's next element is a token that agrees with the code's.
+    fn is_same_token(&self, p: Part, c: Part) -> bool
+        ensures { result ≡ is_same_token self.now.rule.now self.now.file.now (elems_of p.entry) (elems_of c.entry) }
+    {
+        let text = p.text(self.rule);
+        let other = c.text(self.file);
+        p.is_token() && agree(p.kind(), text, c.kind(), other)
     }
-    let n = past_separator(sheet, p, c);
-    let q = siblings::behind(p, n);
-    if is_same_token(rule, file, q, c) {
-        return Token {
-            ok: true,
-            passed: n + siblings::width(q),
-        };
-    }
-    Token {
-        ok: false,
-        passed: 0,
+
+    // Matches a token of the code that is no trivia with the pattern's next element that is none: what is left of the pattern then.
+    pub fn attempt_match_token<'p>(&self, p: Part<'p>, c: Part) -> Option<Part<'p>>
+        ensures { TokenIs (matcher_of self.now) p.entry c.entry result }
+    {
+        if self.is_extra(p, c) {
+            return Some(p);
+        }
+        let q = self.past_separator(p, c);
+        if self.is_same_token(q, c) {
+            return Some(q.rest());
+        }
+        None
     }
 }

@@ -7,12 +7,12 @@ use Prim.Native.Nat.{ℕ}
 use Rattle.words.proofs.TestLaws.{never, and_both}
 use Rattle.syntax.specs.Trees.{Elems, none, token, node}
 use Rattle.syntax.specs.Accessors.{rest, some, between}
-use Rattle.siblings.specs.Siblings.{is_a_node, is_a_token, is_trivia, skip_tokens, skip_trivia, kind_of}
-use Rattle.siblings.proofs.SiblingLaws.{skip-here, skip-next, trivia_is_token}
+use Rattle.syntax.specs.Siblings.{is_a_node, is_a_token, is_trivia, skip_tokens, skip_trivia, kind_of}
+use Rattle.syntax.proofs.SiblingLaws.{skip_here, skip_next, trivia_is_token}
 use Rattle.captures.specs.Attempts.{Attempt, matched, and_then, notes_of}
 use Rattle.captures.proofs.AttemptLaws.{then_nothing}
 use Rattle.matcher.specs.Matcher.{Matcher, has_placeholder_name}
-use Rattle.matcher.specs.declared.token_matching.Sheet.{Sheet}
+use Rattle.matcher.specs.declared.token_matching.Skip.{Skip}
 use Rattle.matcher.specs.Tokens.{is_extra, past_separator, is_same_token, matches_token, after_token, skips}
 use Rattle.matcher.proofs.TokenLaws.{same_token_is}
 use Rattle.record_fields.specs.Fields.{pattern_name}
@@ -22,10 +22,10 @@ use Rattle.matching.specs.StartingOver.{field_by_name, by_name, notes_beside, ag
 -- ---- the next one that is no token
 
 pub next_past : (q : Elems) → is_a_token q ≡ true → next (rest q) ≡ next q
-next_past q h = sym (skip-next 1 1023 q h)
+next_past q h = sym (skip_next 1 1023 q h)
 
 pub next_here : (q : Elems) → is_a_token q ≡ false → next q ≡ q
-next_here q h = skip-here 1 1023 q h
+next_here q h = skip_here 1 1023 q h
 
 pub next_trivia : (q : Elems) → next (skip_trivia q) ≡ next q
 unfolding skip_tokens
@@ -37,12 +37,12 @@ next_trivia (token i k s e r) = by (between 2 3 k) refl (next_trivia r)
     by false h f = refl
 next_trivia (node i k s e ds r) = refl
 
-past_separator_lem : (sheet : Sheet) (p c : Elems) (b : Bool) → (is_a_token p && skips sheet (kind_of p) (kind_of c)) ≡ b → next (past_separator sheet p c) ≡
+past_separator_lem : (sheet : List Skip) (p c : Elems) (b : Bool) → (is_a_token p && skips sheet (kind_of p) (kind_of c)) ≡ b → next (past_separator sheet p c) ≡
     next p
 past_separator_lem sheet p c true h = rw (h) (next_trivia (rest p) ∙ next_past p (and_both (is_a_token p) (skips sheet (kind_of p) (kind_of c)) h).0)
 past_separator_lem sheet p c false h = rw (h)
 
-pub next-after : (sheet : Sheet) (code text : List ℕ) (p c : Elems) → matches_token sheet code text p c ≡ true → next (after_token sheet p c) ≡ next p
+pub next-after : (sheet : List Skip) (code text : List ℕ) (p c : Elems) → matches_token sheet code text p c ≡ true → next (after_token sheet p c) ≡ next p
 next-after sheet code text p c h = by (is_extra sheet p c) refl
   where
     by : (b : Bool) → is_extra sheet p c ≡ b → next (after_token sheet p c) ≡ next p

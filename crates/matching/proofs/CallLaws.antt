@@ -1,30 +1,66 @@
--- What is right for a call that is matched with a method call.
+-- What each branch comes to of the functions that match paths and calls.
 -- Assumes nothing.
 use mathlib.Core.Path.{◌≡◌, refl, sym, ap, ◌∙◌}
-use mathlib.Core.Bool.{Bool, true, false, cond, ◌&&◌, ◌||◌, false≢true}
+use mathlib.Core.Bool.{Bool, true, false, cond, not, ◌&&◌, ◌||◌, false≢true}
 use mathlib.Core.List.{List, []}
-use Prim.Native.Nat.{ℕ, suc, ◌+◌, ◌*◌, ◌≤◌}
+use Prim.Native.Nat.{ℕ, suc, ◌-◌, ◌≤◌}
 use native.Mathlib.Omega.{arith}
-use lib.Dec.{ltb}
-use lib.ListN.{length, drop, length-drop}
-use borrow.Author.Tests.{ltb-true, ltb-false}
-use Rattle.syntax.specs.Trees.{Elems, elems}
-use Rattle.syntax.specs.Accessors.{children, rest, number_of, some, find_node, first_child, find_expression}
+use lib.ListN.{length}
+use Rattle.std.proofs.Common.{Option, Some, None}
+use Rattle.std.specs.Prelude.{is_some}
+use Rattle.syntax.specs.Trees.{Elems}
+use Rattle.syntax.specs.Accessors.{children, rest, number_of, some, first_child, find_expression}
+use Rattle.syntax.specs.Views.{elems_of}
+use Rattle.syntax.specs.declared.parts.Part.{Part}
 use Rattle.syntax.proofs.AccessorLaws.{number_is}
-use Rattle.siblings.proofs.SiblingLaws.{long_some}
-use Rattle.captures.specs.Attempts.{Attempt, failed, matched, and_then, given}
-use Rattle.captures.specs.Effects.{no_match, Gives}
 use Rattle.captures.specs.declared.State.{State}
-use Rattle.captures.specs.declared.Answer.{Answer}
-use Rattle.captures.proofs.AttemptLaws.{given_true, given_false, then_nothing}
-use Rattle.matcher.specs.declared.file_facts.Derefs.{Derefs}
-use Rattle.matcher.specs.Matcher.{Matcher, is_typed}
-use Rattle.matcher.specs.FileFacts.{takes_self}
-use Rattle.calls.specs.Calls.{call_of, arguments_of, argument_of, receiver_of, derefs_of, same_function, takes_receiver, receiver_fits, prefix, prefixed, arguments_left}
-use Rattle.matching.specs.Matching.{match_node, match_opt, match_method_call, match_receiver, match_arguments, OptGives, MethodCallGives, ReceiverGives, ArgumentsGive}
-use Rattle.matching.proofs.StepLaws.{by_suc, same_gives}
-use Rattle.matching.proofs.PlaceLaws.{some_long, some_short}
-use Rattle.matching.proofs.GiveLaws.{gives_no, first_fails, both_match}
+use Rattle.captures.specs.Attempts.{Attempt, failed, matched, and_then, given}
+use Rattle.captures.specs.Effects.{Gives}
+use Rattle.captures.proofs.AttemptLaws.{given_true, given_false, then_nothing, gives_done, gives_failed}
+use Rattle.matcher.specs.Matcher.{Matcher}
+use Rattle.calls.specs.Calls.{arguments_of, argument_of, receiver_of, receiver_derefs, first_fits, same_resolution, same_function, takes_receiver, receiver_fits, prefix, prefixed, arguments_left}
+use Rattle.calls.proofs.CallLaws.{receiver_fits_is, prefixed_is}
+use Rattle.matching.specs.Matching.{match_node, match_opt, match_sequences, match_path, match_segments, match_ufcs, match_method_call, match_receiver, match_arguments, PathGives, SegmentsGive, SequencesGive, UfcsGives, OptGives, MethodCallGives, ReceiverGives, ArgumentsGive}
+use Rattle.matching.proofs.StepLaws.{path_resolved, path-plain, ufcs_fits as ufcs_step, ufcs_other as ufcs_fails}
+use Rattle.matching.proofs.GiveLaws.{fails_at, same_at, first_fails, both_match}
+
+-- ---- paths
+
+module _ (x : Matcher) (p c : Part) (s : State) (out : List ℕ) (h : 3 ≤ length p.words.now) (k : 3 ≤ length c.words.now) where
+  number : number_of (elems_of p) ≡ p.number
+  number = number_is p.number p.words.now h
+
+  pub path_plain : (ps cs : Part) (r : Option State) (out' : List ℕ) → is_some (x.path_at p.number) ≡ false → elems_of ps ≡ children (elems_of p) → elems_of cs ≡ children (elems_of c)
+      → length ps.words.now ≤ length p.words.now - 3 → length cs.words.now ≤ length c.words.now - 3 → SequencesGive x ps cs s out r out' → PathGives x p c s out r out'
+  path_plain ps cs r out' t e f l m g = same_at 0 match_path x p c s out 4 match_sequences ps cs (omega (arith, h, k, l, m)) r out'
+      (λ n. path-plain x (elems_of p) (elems_of c) n (ap (λ (j : ℕ). is_some (x.path_at j)) number ∙ t) ∙ rw (e, f)) g
+
+  module _ (t : is_some (x.path_at p.number) ≡ true) (y z : Part) (e : elems_of y ≡ first_child 3 (elems_of p)) (f : elems_of z ≡ first_child 3 (elems_of c))
+      (l : length y.words.now ≤ length p.words.now - 3) (m : length z.words.now ≤ length c.words.now - 3) where
+    step : (n : ℕ) → match_path (suc n) x (elems_of p) (elems_of c) ≡ and_then (match_segments n x (elems_of y) (elems_of z)) (given (same_resolution x (elems_of p) (elems_of c)))
+    step n = path_resolved x (elems_of p) (elems_of c) n (ap (λ (j : ℕ). is_some (x.path_at j)) number ∙ t) ∙ rw (e, f)
+
+    pub path_fails : (out' : List ℕ) → SegmentsGive x y z s out None out' → PathGives x p c s out None out'
+    path_fails out' g = first_fails 0 match_path x p c s out 0 match_segments y z (omega (arith, h, k, l, m)) (λ n. given (same_resolution x (elems_of p) (elems_of c))) step out' g
+
+    test : (b : Bool) → same_resolution x (elems_of p) (elems_of c) ≡ b → (u : State) (out' : List ℕ) (r : Option State) → Gives (given b) u out' r out' → SegmentsGive x y z s out (Some u) out' → PathGives x p c s out r out'
+    test b v u out' r g w = both_match 0 match_path x p c s out 0 match_segments y z (omega (arith, h, k, l, m)) (λ n. given (same_resolution x (elems_of p) (elems_of c))) step u out' r out' w (λ n i. rw v g)
+
+    pub path_same : (u : State) (out' : List ℕ) → SegmentsGive x y z s out (Some u) out' → same_resolution x (elems_of p) (elems_of c) ≡ true → PathGives x p c s out (Some u) out'
+    path_same u out' g v = test true v u out' (Some u) (gives_done u out') g
+
+    pub path_other : (u : State) (out' : List ℕ) → SegmentsGive x y z s out (Some u) out' → same_resolution x (elems_of p) (elems_of c) ≡ false → PathGives x p c s out None out'
+    path_other u out' g v = test false v u out' None (gives_failed u out' out' refl) g
+
+-- ---- a call with a call
+
+module _ (x : Matcher) (p c : Part) (s : State) (out : List ℕ) where
+  pub ufcs_fits : (ps cs : Part) (r : Option State) (out' : List ℕ) → first_fits x (elems_of p) (elems_of c) ≡ true → elems_of ps ≡ children (elems_of p) → elems_of cs ≡ children (elems_of c)
+      → length ps.words.now ≤ length p.words.now - 3 → length cs.words.now ≤ length c.words.now - 3 → 3 ≤ length p.words.now → 3 ≤ length c.words.now → SequencesGive x ps cs s out r out' → UfcsGives x p c s out r out'
+  ufcs_fits ps cs r out' t e f l m h k g = same_at 0 match_ufcs x p c s out 4 match_sequences ps cs (omega (arith, h, k, l, m)) r out' (λ n. ufcs_step x (elems_of p) (elems_of c) n t ∙ rw (e, f)) g
+
+  pub ufcs_other : first_fits x (elems_of p) (elems_of c) ≡ false → UfcsGives x p c s out None out
+  ufcs_other t = fails_at 0 match_ufcs x p c s out out (λ n. ufcs_fails x (elems_of p) (elems_of c) n t) refl
 
 -- ---- one step of each
 then_failed : (a : Attempt) → and_then a failed ≡ failed
@@ -71,133 +107,66 @@ module _ (x : Matcher) (p c : Elems) (n : ℕ) where
   unfolding match_node
   receiver_other h = rw (h) (given_false (and_then (match_opt n x (argument_of p) (receiver_of c)) (prefixed x p c)))
 
-either : (a b : Bool) → (a || b) ≡ true → {P : Type 0} → (a ≡ true → P) → (b ≡ true → P) → P
-either true b e f g = f refl
-either false b e f g = g e
+-- ---- a call with a method call
 
-neither : (a b : Bool) → (a || b) ≡ false → (a ≡ false) × (b ≡ false)
-neither true b e = absurd (false≢true (sym e))
-neither false b e = (refl, e)
+module _ (x : Matcher) (p c y z : Part) (s : State) (out : List ℕ) (e : elems_of y ≡ first_child 7 (elems_of p)) (f : elems_of z ≡ first_child 7 (elems_of c)) where
+  pub method_lists : (not (some (elems_of y)) || not (some (elems_of z))) ≡ true → MethodCallGives x p c s out None out
+  method_lists h = fails_at 1 match_method_call x p c s out out (λ n. by n (some (elems_of y)) (some (elems_of z)) refl refl) refl
+    where
+      by : (n : ℕ) (a b : Bool) → some (elems_of y) ≡ a → some (elems_of z) ≡ b → match_method_call (suc n) x (elems_of p) (elems_of c) ≡ failed
+      by n false b u v = method_listless x (elems_of p) (elems_of c) n (rw (← e) u)
+      by n true false u v = method_code_listless x (elems_of p) (elems_of c) n (rw (← f) v)
+      by n true true u v = absurd (false≢true (rw (u, v) at h))
 
--- ---- the method call, from the parts of both argument lists
-module _ (x : Matcher) (pe : ℕ) (p : List ℕ) (ce : ℕ) (c : List ℕ) (s : State) (out : List ℕ) (ps cs : List ℕ) (j i : ℕ) (y z : List ℕ)
-    (below-p : (e : ℕ) → elems (e + 1) ps ≡ children (elems e p)) (below-c : (e : ℕ) → elems (e + 1) cs ≡ children (elems e c))
-    (find-p : (e : ℕ) → elems (e + j) (drop (j * 3) ps) ≡ find_node 7 7 (elems e ps)) (find-c : (e : ℕ) → elems (e + i) (drop (i * 3) cs) ≡ find_node 7 7 (elems e cs))
-    (behind-p : y ≡ drop (j * 3) ps) (behind-c : z ≡ drop (i * 3) cs) where
-  list_p : elems (pe + 1 + j) y ≡ first_child 7 (elems pe p)
-  list_p = ap (λ (l : List ℕ). elems (pe + 1 + j) l) behind-p ∙ find-p (pe + 1) ∙ ap (find_node 7 7) (below-p pe)
+  module _ (h : (not (some (elems_of y)) || not (some (elems_of z))) ≡ false) where
+    there : (a b : Bool) → (not a || not b) ≡ false → (a ≡ true) × (b ≡ true)
+    there true true i = (refl, refl)
+    there true false i = absurd (false≢true (sym i))
+    there false b i = absurd (false≢true (sym i))
 
-  list_c : elems (ce + 1 + i) z ≡ first_child 7 (elems ce c)
-  list_c = ap (λ (l : List ℕ). elems (ce + 1 + i) l) behind-c ∙ find-c (ce + 1) ∙ ap (find_node 7 7) (below-c ce)
+    both : (some (first_child 7 (elems_of p)) ≡ true) × (some (first_child 7 (elems_of c)) ≡ true)
+    both = rw (← e, ← f) (there (some (elems_of y)) (some (elems_of z)) h)
 
-  pub method_lists : (r : Answer) → (ltb (length y) 3 || ltb (length z) 3) ≡ true → r ≡ no_match → MethodCallGives x pe p ce c s out r out
-  method_lists r h f = either _ _ h
-      (λ a. by_suc _ (λ m g. gives_no (method_listless x _ _ m (ap some (sym list_p) ∙ some_short (pe + 1 + j) y (ltb-true _ _ a))) f refl))
-      (λ b. by_suc _ (λ m g. gives_no (method_code_listless x _ _ m (ap some (sym list_c) ∙ some_short (ce + 1 + i) z (ltb-true _ _ b))) f refl))
+    pub method_other : same_function x (elems_of p) (elems_of c) ≡ false → MethodCallGives x p c s out None out
+    method_other t = fails_at 1 match_method_call x p c s out out (λ n. method-other x (elems_of p) (elems_of c) n t) refl
 
-  module _ (both : (ltb (length y) 3 || ltb (length z) 3) ≡ false) where
-    some_p : some (first_child 7 (elems pe p)) ≡ true
-    some_p = ap some (sym list_p) ∙ some_long (pe + 1 + j) y (ltb-false _ _ (neither (ltb (length y) 3) (ltb (length z) 3) both).0)
+    module _ (same : same_function x (elems_of p) (elems_of c) ≡ true) (v w : Part) (i : elems_of v ≡ children (elems_of y)) (j : elems_of w ≡ children (elems_of z))
+        (less-y : length y.words.now ≤ length p.words.now - 3) (less-z : length z.words.now ≤ length c.words.now - 3) (less-v : length v.words.now ≤ length y.words.now - 3) (less-w : length w.words.now ≤ length z.words.now - 3)
+        (long : 3 ≤ length p.words.now) where
+      pub method_plain : (r : Option State) (out' : List ℕ) → takes_receiver x (elems_of p) (elems_of c) ≡ false → ArgumentsGive x v w s out r out' → MethodCallGives x p c s out r out'
+      method_plain r out' t g = same_at 1 match_method_call x p c s out 4 match_arguments v w (omega (arith, long, less-y, less-z, less-v, less-w)) r out'
+          (λ n. method_leaves x (elems_of p) (elems_of c) n same both.0 both.1 t ∙ rw (i, e, j, f)) g
 
-    some_c : some (first_child 7 (elems ce c)) ≡ true
-    some_c = ap some (sym list_c) ∙ some_long (ce + 1 + i) z (ltb-false _ _ (neither (ltb (length y) 3) (ltb (length z) 3) both).1)
+      module _ (t : takes_receiver x (elems_of p) (elems_of c) ≡ true) where
+        method_step : (n : ℕ) → match_method_call (suc n) x (elems_of p) (elems_of c) ≡ and_then (match_receiver n x (elems_of p) (elems_of c)) (match_arguments n x (rest (find_expression (elems_of v))) (elems_of w))
+        method_step n = method-receives x (elems_of p) (elems_of c) n same both.0 both.1 t ∙ rw (i, e, j, f)
 
-    pub method_list : some (first_child 7 (elems pe p)) ≡ true
-    method_list = some_p
+        pub method_fails : (out' : List ℕ) → ReceiverGives x p c s out None out' → MethodCallGives x p c s out None out'
+        method_fails out' g = first_fails 1 match_method_call x p c s out 0 match_receiver p c (omega arith) (λ n. match_arguments n x (rest (find_expression (elems_of v))) (elems_of w)) method_step out' g
 
-    pub method_function : (r : Answer) → same_function x (elems pe p) (elems ce c) ≡ false → r ≡ no_match → MethodCallGives x pe p ce c s out r out
-    method_function r h f = by_suc _ (λ m g. gives_no (method-other x _ _ m h) f refl)
-
-    module _ (same : same_function x (elems pe p) (elems ce c) ≡ true) (v w : List ℕ) (shorter : (3 + length ps ≤ length p) × (3 + length cs ≤ length c) × (3 + length v ≤ length y) × (3 + length w ≤ length z))
-        (below-y : (e : ℕ) → elems (e + 1) v ≡ children (elems e y)) (below-z : (e : ℕ) → elems (e + 1) w ≡ children (elems e z)) where
-      fewer : length v + length w + 12 ≤ length p + length c
-      fewer = omega (arith, shorter.0, shorter.1, shorter.2, shorter.3, ap length behind-p, length-drop (j * 3) ps, ap length behind-c, length-drop (i * 3) cs)
-
-      arguments_p : elems (pe + 2 + j) v ≡ arguments_of (elems pe p)
-      arguments_p = ap (λ (n : ℕ). elems n v) number ∙ below-y (pe + 1 + j) ∙ ap children list_p
-        where
-          number : pe + 2 + j ≡ pe + 1 + j + 1
-          number = omega arith
-
-      arguments_c : elems (ce + 2 + i) w ≡ arguments_of (elems ce c)
-      arguments_c = ap (λ (n : ℕ). elems n w) number ∙ below-z (ce + 1 + i) ∙ ap children list_c
-        where
-          number : ce + 2 + i ≡ ce + 1 + i + 1
-          number = omega arith
-
-      pub method-plain : (r : Answer) (end : List ℕ) → takes_receiver x (elems pe p) (elems ce c) ≡ false → ArgumentsGive x (pe + 2 + j) v (ce + 2 + i) w s out r end
-          → MethodCallGives x pe p ce c s out r end
-      method-plain r end t g = by_suc _ (λ m h. same_gives (method_leaves x _ _ m same some_p some_c t) (rw (arguments_p, arguments_c) at (g m (omega (arith, h, fewer)))))
-
-      pub method_receiver_fails : (r r' : Answer) (out' : List ℕ) → takes_receiver x (elems pe p) (elems ce c) ≡ true → ReceiverGives x pe p ce c s out r out' → r.ok ≡ false → r' ≡ no_match
-          → MethodCallGives x pe p ce c s out r' out'
-      method_receiver_fails r r' out' t g e f =
-          by_suc _ (λ m h. same_gives (method-receives x _ _ m same some_p some_c t) (first_fails _ s out r out' r' _ (g m (omega (arith, h))) e f))
-
-      pub method_receiver : (r r' : Answer) (t : State) (out' end : List ℕ) (k : ℕ) (q : List ℕ) → takes_receiver x (elems pe p) (elems ce c) ≡ true → ReceiverGives x pe p ce c s out r out'
-          → r.ok ≡ true → t ≡ r.state → ((e : ℕ) → elems (e + k) (drop (k * 3) v) ≡ rest (find_expression (elems e v))) → q ≡ drop (k * 3) v
-          → ArgumentsGive x (pe + 2 + j + k) q (ce + 2 + i) w t out' r' end → MethodCallGives x pe p ce c s out r' end
-      method_receiver r r' t out' end k q u g e f first behind l = by_suc _ (λ m h. same_gives (method-receives x _ _ m same some_p some_c u)
-          (both_match _ s out r out' r' _ t end (g m (omega (arith, h))) e f (rw (left, arguments_c) at (l m (omega (arith, h, fewer, ap length behind, length-drop (k * 3) v))))))
-        where
-          left : elems (pe + 2 + j + k) q ≡ rest (argument_of (elems pe p))
-          left = ap (λ (l : List ℕ). elems (pe + 2 + j + k) l) behind ∙ first (pe + 2 + j) ∙ ap (λ (d : Elems). rest (find_expression d)) arguments_p
+        pub method_receiver : (u : State) (out' : List ℕ) (q d : Part) (r : Option State) (end : List ℕ) → ReceiverGives x p c s out (Some u) out' → elems_of d ≡ find_expression (elems_of v) → elems_of q ≡ rest (elems_of d)
+            → length d.words.now ≤ length v.words.now → length q.words.now ≤ length d.words.now - 3 → ArgumentsGive x q w u out' r end → MethodCallGives x p c s out r end
+        method_receiver u out' q d r end g a b l m k = both_match 1 match_method_call x p c s out 0 match_receiver p c (omega arith) (λ n. match_arguments n x (rest (find_expression (elems_of v))) (elems_of w)) method_step u out' r end g
+            (λ n o. rw (← a, ← b) (k.gives n (omega (arith, long, less-y, less-z, less-v, less-w, l, m, o))))
 
 -- ---- the receiver
-module _ (x : Matcher) (p c : Elems) (n : ℕ) (d : Derefs) where
-  pub prefix_is : number_of c ≡ n → (takes_self x.facts n ≡ true → d ≡ derefs_of x p (receiver_of c)) → prefix x d.count (argument_of p) (receiver_of c) n ≡ prefixed x p c
-  prefix_is e f = by (takes_self x.facts n) refl
-    where
-      by : (b : Bool) → takes_self x.facts n ≡ b → prefix x d.count (argument_of p) (receiver_of c) n ≡ prefixed x p c
-      by true t = rw (e, f t)
-      by false t = rw (e, t)
 
--- where it is matched with an argument and the function takes self, it is there
-pub receiver_number : (x : Matcher) (p : Elems) (ce : ℕ) (c cs : List ℕ) (i : ℕ) (z : List ℕ) → 3 ≤ length c → takes_receiver x p (elems ce c) ≡ true
-    → ((e : ℕ) → elems (e + 1) cs ≡ children (elems e c)) → ((e : ℕ) → elems (e + i) (drop (i * 3) cs) ≡ find_expression (elems e cs)) → z ≡ drop (i * 3) cs
-    → takes_self x.facts ce ≡ true → (3 ≤ length z) × (number_of (receiver_of (elems ce c)) ≡ ce + 1 + i)
-receiver_number x p ce c cs i z h t below find behind self = (long, ap number_of (sym at_z) ∙ number_is (ce + 1 + i) z long)
-  where
-    at_z : elems (ce + 1 + i) z ≡ receiver_of (elems ce c)
-    at_z = ap (λ (l : List ℕ). elems (ce + 1 + i) l) behind ∙ find (ce + 1) ∙ ap find_expression (below ce)
+module _ (x : Matcher) (p c : Part) (s : State) (out : List ℕ) where
+  pub receiver_none : receiver_derefs x (elems_of p) (elems_of c) ≡ None → ReceiverGives x p c s out None out
+  receiver_none h = fails_at 0 match_receiver x p c s out out (λ n. receiver_other x (elems_of p) (elems_of c) n (sym (receiver_fits_is x (elems_of p) (elems_of c)) ∙ ap is_some h)) refl
 
-    both : (a b : Bool) → (a && b) ≡ true → b ≡ true
-    both true b e = e
-    both false b e = absurd (false≢true e)
+  module _ (stars : ℕ) (h : receiver_derefs x (elems_of p) (elems_of c) ≡ Some stars) (a q z : Part) (d : elems_of a ≡ arguments_of (elems_of p)) (e : elems_of q ≡ find_expression (elems_of a)) (f : elems_of z ≡ receiver_of (elems_of c))
+      (l : length a.words.now ≤ length p.words.now - 3) (m : length q.words.now ≤ length a.words.now) (o : length z.words.now ≤ length c.words.now) (long : 3 ≤ length p.words.now) where
+    at_q : elems_of q ≡ argument_of (elems_of p)
+    at_q = e ∙ ap find_expression d
 
-    long : 3 ≤ length z
-    long = long_some (ce + 1 + i) z (ap some at_z ∙ both (is_typed (call_of x p)) (some (receiver_of (elems ce c))) (rw (number_is ce c h, self) at t))
+    receiver_step : (n : ℕ) → match_receiver (suc n) x (elems_of p) (elems_of c) ≡ and_then (match_opt n x (elems_of q) (elems_of z)) (prefixed x (elems_of p) (elems_of c))
+    receiver_step n = receiver_fits_lem x (elems_of p) (elems_of c) n (sym (receiver_fits_is x (elems_of p) (elems_of c)) ∙ ap is_some h) ∙ rw (at_q, f)
 
-module _ (x : Matcher) (pe : ℕ) (p : List ℕ) (ce : ℕ) (c : List ℕ) (s : State) (out : List ℕ) (ps cs : List ℕ) (j i m : ℕ) (y v q z : List ℕ)
-    (shorter : (3 + length ps ≤ length p) × (3 + length cs ≤ length c) × (3 + length v ≤ length y))
-    (below-p : (e : ℕ) → elems (e + 1) ps ≡ children (elems e p)) (below-c : (e : ℕ) → elems (e + 1) cs ≡ children (elems e c)) (below-y : (e : ℕ) → elems (e + 1) v ≡ children (elems e y))
-    (find-p : (e : ℕ) → elems (e + j) (drop (j * 3) ps) ≡ find_node 7 7 (elems e ps)) (find-v : (e : ℕ) → elems (e + m) (drop (m * 3) v) ≡ find_expression (elems e v))
-    (find-c : (e : ℕ) → elems (e + i) (drop (i * 3) cs) ≡ find_expression (elems e cs))
-    (behind-y : y ≡ drop (j * 3) ps) (behind-q : q ≡ drop (m * 3) v) (behind-z : z ≡ drop (i * 3) cs) where
-  pub argument_is : elems (pe + 2 + j + m) q ≡ argument_of (elems pe p)
-  argument_is = ap (λ (l : List ℕ). elems (pe + 2 + j + m) l) behind-q ∙ find-v (pe + 2 + j) ∙ ap find_expression (ap (λ (n : ℕ). elems n v) number ∙ below-y (pe + 1 + j) ∙ ap children list_p)
-    where
-      number : pe + 2 + j ≡ pe + 1 + j + 1
-      number = omega arith
+    pub receiver_fails : (out' : List ℕ) → OptGives x q z s out None out' → ReceiverGives x p c s out None out'
+    receiver_fails out' g = first_fails 0 match_receiver x p c s out 3 match_opt q z (omega (arith, long, l, m, o)) (λ n. prefixed x (elems_of p) (elems_of c)) receiver_step out' g
 
-      list_p : elems (pe + 1 + j) y ≡ first_child 7 (elems pe p)
-      list_p = ap (λ (l : List ℕ). elems (pe + 1 + j) l) behind-y ∙ find-p (pe + 1) ∙ ap (find_node 7 7) (below-p pe)
-
-  pub receiver_is : elems (ce + 1 + i) z ≡ receiver_of (elems ce c)
-  receiver_is = ap (λ (l : List ℕ). elems (ce + 1 + i) l) behind-z ∙ find-c (ce + 1) ∙ ap find_expression (below-c ce)
-
-  receiver_fewer : length q + length z + 9 ≤ length p + length c
-  receiver_fewer = omega (arith, shorter.0, shorter.1, shorter.2, ap length behind-y, length-drop (j * 3) ps, ap length behind-q, length-drop (m * 3) v, ap length behind-z, length-drop (i * 3) cs)
-
-  pub receiver_none : (r : Answer) → receiver_fits x (elems pe p) (elems ce c) ≡ false → r ≡ no_match → ReceiverGives x pe p ce c s out r out
-  receiver_none r h f = by_suc _ (λ n g. gives_no (receiver_other x _ _ n h) f refl)
-
-  module _ (fits : receiver_fits x (elems pe p) (elems ce c) ≡ true) where
-    pub receiver_fails : (r r' : Answer) (out' : List ℕ) → OptGives x (pe + 2 + j + m) q (ce + 1 + i) z s out r out' → r.ok ≡ false → r' ≡ no_match → ReceiverGives x pe p ce c s out r' out'
-    receiver_fails r r' out' g e f =
-        by_suc _ (λ n h. same_gives (receiver_fits_lem x _ _ n fits) (first_fails _ s out r out' r' _ (rw (argument_is, receiver_is) at (g n (omega (arith, h, receiver_fewer)))) e f))
-
-    pub receiver_matches : (r r' : Answer) (t : State) (out' : List ℕ) → OptGives x (pe + 2 + j + m) q (ce + 1 + i) z s out r out' → r.ok ≡ true → t ≡ r.state
-        → Gives (prefixed x (elems pe p) (elems ce c)) t out' r' out' → ReceiverGives x pe p ce c s out r' out'
-    receiver_matches r r' t out' g e f l =
-        by_suc _ (λ n h. same_gives (receiver_fits_lem x _ _ n fits) (both_match _ s out r out' r' _ t out' (rw (argument_is, receiver_is) at (g n (omega (arith, h, receiver_fewer)))) e f l))
+    pub receiver_matches : (t u : State) (out' : List ℕ) → OptGives x q z s out (Some t) out' → ((new : List ℕ) → Gives (prefix x stars (elems_of q) (elems_of z) (number_of (elems_of c))) t new (Some u) new)
+        → ReceiverGives x p c s out (Some u) out'
+    receiver_matches t u out' g w = both_match 0 match_receiver x p c s out 3 match_opt q z (omega (arith, long, l, m, o)) (λ n. prefixed x (elems_of p) (elems_of c)) receiver_step t out' (Some u) out' g
+        (λ n i. rw (← prefixed_is x (elems_of p) (elems_of c) stars h, ← at_q, ← f) (w out'))

@@ -5,16 +5,16 @@ use mathlib.Core.Bool.{Bool, true, false, ◌&&◌, ◌||◌}
 use mathlib.Core.List.{List}
 use Prim.Native.Nat.{ℕ, zero, suc, ◌≤◌}
 use native.Mathlib.Omega.{arith}
-use lib.Dec.{eqb, leb, ltb}
+use lib.Dec.{eqb, leb}
 use borrow.Author.Tests.{leb-true, leb-false}
 use Rattle.syntax.specs.Trees.{Elems, none, token, node}
 use Rattle.syntax.specs.Accessors.{children, number_of, some, node_in, find_expression}
-use Rattle.siblings.specs.Siblings.{kind_of, is_a_token, is_trivia}
+use Rattle.syntax.specs.Siblings.{kind_of, is_a_token, is_trivia}
 use Rattle.captures.specs.Attempts.{Event, Attempt, matched}
 use Rattle.captures.proofs.PartLaws.{events_of}
 use Rattle.matcher.specs.Matcher.{Matcher, slot_of, is_resolved, is_a_call, has_placeholder_name}
 use Rattle.record_fields.specs.Fields.{pattern_name}
-use Rattle.token_trees.proofs.FuelLaws.{Below, below_refl, below-failed, below_then, below_cond, below_more, step-tree}
+use Rattle.token_trees.proofs.FuelLaws.{Below, below_refl, below-failed, below_then, below_cond, below_slot, below_more, step-tree}
 use Rattle.calls.specs.Calls.{call_of, takes_receiver}
 use Rattle.matching.specs.RecordFields.{match_field, match_fields}
 use Rattle.matching.specs.Matching.{match_node, match_by_kind, match_sequences, match_opt, match_path, match_segments, match_record_field_list, match_ufcs, match_method_call, match_receiver, match_arguments}
@@ -39,7 +39,7 @@ mutual
   pub step-node : (n : ℕ) (x : Matcher) (p c : Elems) → Below (match_node n x p c) (match_node (suc n) x p c)
   step-node zero x p c = below-failed _
   step-node (suc n) x p c =
-      below_cond (ltb (slot_of x p) 8) (below_refl _)
+      below_slot (slot_of x p) (λ slot. below_refl _)
       (below_cond (is_a_call (call_of x p) && node_in 65 65 c) (step-method-call n x p c)
       (below_cond (is_a_call (call_of x p) && node_in 64 64 c) (step-ufcs n x p c)
       (below_cond (eqb (kind_of p) (kind_of c)) (step-by-kind n x p c) (below_refl _))))

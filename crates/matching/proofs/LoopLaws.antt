@@ -1,99 +1,67 @@
--- What is right for the loops of the cycle: the end of a sequence, and arguments in turn.
+-- What is right for the loops of the cycle: at the end of a sequence, and for arguments in turn.
 -- Assumes nothing.
-use mathlib.Core.Path.{◌≡◌, refl, sym, ap, ◌∙◌}
-use mathlib.Core.Bool.{Bool, true, false, not}
+use mathlib.Core.Path.{◌≡◌, refl, ◌∙◌}
+use mathlib.Core.Bool.{true, false}
 use mathlib.Core.List.{List}
-use Prim.Native.Nat.{ℕ, zero, suc, ◌+◌, ◌*◌, ◌≤◌, ◌<◌}
+use Prim.Native.Nat.{ℕ, zero, suc, ◌-◌, ◌≤◌}
 use native.Mathlib.Omega.{arith}
-use lib.ListN.{length, drop, length-drop}
-use Rattle.syntax.specs.Trees.{Elems, elems}
+use lib.ListN.{length}
+use Rattle.std.proofs.Common.{Some, None}
+use Rattle.syntax.specs.Trees.{Elems}
 use Rattle.syntax.specs.Accessors.{rest, some, find_expression}
-use Rattle.siblings.specs.Siblings.{skip_trivia}
-use Rattle.captures.specs.Attempts.{Attempt, failed, and_then, given}
-use Rattle.captures.specs.Effects.{no_match}
+use Rattle.syntax.specs.Siblings.{skip_trivia}
+use Rattle.syntax.specs.Views.{elems_of}
+use Rattle.syntax.specs.declared.parts.Part.{Part}
+use Rattle.syntax.proofs.SiblingLaws.{long_some}
 use Rattle.captures.specs.declared.State.{State}
-use Rattle.captures.specs.declared.Answer.{Answer}
+use Rattle.captures.specs.declared.Turn.{Turn}
+use Rattle.captures.specs.Attempts.{Attempt, failed, and_then}
+use Rattle.captures.specs.Turns.{GoesOn}
 use Rattle.matcher.specs.Matcher.{Matcher}
-use Rattle.matching.specs.Matching.{match_node, match_opt, match_arguments, SequencesGive, OptGives, ArgumentsGive}
-use Rattle.matching.proofs.StepLaws.{by_suc, same_gives, sequence_end, arguments_end, arguments_turn}
-use Rattle.matching.proofs.PlaceLaws.{some_long, some_short}
-use Rattle.matching.proofs.GiveLaws.{gives_no, gives_same, first_fails, both_match}
+use Rattle.matching.specs.Matching.{match_node, match_opt, match_sequences, match_arguments, SequencesGive, OptGives, ArgumentsGive}
+use Rattle.matching.proofs.StepLaws.{sequence_end, arguments_end, arguments_turn as arguments_step}
+use Rattle.matching.proofs.GiveLaws.{fails_at, done_at, first_fails, both_match}
 
 -- ---- the end of a sequence
-module _ (x : Matcher) (pe : ℕ) (p : List ℕ) (ce : ℕ) (c : List ℕ) (s : State) (out : List ℕ) (r : Answer) (k : ℕ) (y : List ℕ)
-    (skips : (i : ℕ) → elems (i + k) (drop (k * 3) p) ≡ skip_trivia (elems i p)) (behind : y ≡ drop (k * 3) p) (end : length c < 3) where
-  left_is : (b : Bool) → some (elems (pe + k) y) ≡ b → some (skip_trivia (elems pe p)) ≡ b
-  left_is b e = ap some (sym (ap (λ (l : List ℕ). elems (pe + k) l) behind ∙ skips pe)) ∙ e
 
-  pub sequence_done : length y < 3 → r ≡ record { ok = true; state = s } → SequencesGive x pe p ce c s out r out
-  sequence_done h f = by_suc _ (λ m g. gives_same
-      (sequence_end x (elems pe p) (elems ce c) m (some_short ce c end) ∙ ap (λ (b : Bool). given (not b)) (left_is false (some_short (pe + k) y h))) f)
+module _ (x : Matcher) (p q c : Part) (s : State) (out : List ℕ) (e : elems_of q ≡ skip_trivia (elems_of p)) (h : some (elems_of c) ≡ false) where
+  pub sequence_done : some (elems_of q) ≡ false → SequencesGive x p c s out (Some s) out
+  sequence_done t = done_at 4 match_sequences x p c s out (λ m. sequence_end x (elems_of p) (elems_of c) m h ∙ rw (← e, t))
 
-  pub sequence_more : 3 ≤ length y → r ≡ no_match → SequencesGive x pe p ce c s out r out
-  sequence_more h f = by_suc _ (λ m g. gives_no
-      (sequence_end x (elems pe p) (elems ce c) m (some_short ce c end) ∙ ap (λ (b : Bool). given (not b)) (left_is true (some_long (pe + k) y h))) f refl)
+  pub sequence_left : some (elems_of q) ≡ true → SequencesGive x p c s out None out
+  sequence_left t = fails_at 4 match_sequences x p c s out out (λ m. sequence_end x (elems_of p) (elems_of c) m h ∙ rw (← e, t)) refl
 
 -- ---- arguments in turn
+
 opt_absent : (x : Matcher) (p c : Elems) (n : ℕ) → some p ≡ true → some c ≡ false → match_opt n x p c ≡ failed
 unfolding match_node
 opt_absent x p c zero h k = refl
 opt_absent x p c (suc n) h k = rw (h, k)
 
-failed-first : (b : Attempt) → and_then failed b ≡ failed
+failed_first : (b : Attempt) → and_then failed b ≡ failed
 unfolding and_then
-failed-first b = refl
+failed_first b = refl
 
-module _ (x : Matcher) (pe : ℕ) (p : List ℕ) (ce : ℕ) (c : List ℕ) (s : State) (out : List ℕ) (j i : ℕ) (y z : List ℕ)
-    (find-p : (e : ℕ) → elems (e + j) (drop (j * 3) p) ≡ find_expression (elems e p)) (find-c : (e : ℕ) → elems (e + i) (drop (i * 3) c) ≡ find_expression (elems e c))
-    (behind-p : y ≡ drop (j * 3) p) (behind-c : z ≡ drop (i * 3) c) where
-  at_y : elems (pe + j) y ≡ find_expression (elems pe p)
-  at_y = ap (λ (l : List ℕ). elems (pe + j) l) behind-p ∙ find-p pe
+module _ (x : Matcher) (p c y z : Part) (s : State) (out : List ℕ) (e : elems_of y ≡ find_expression (elems_of p)) (f : elems_of z ≡ find_expression (elems_of c)) where
+  module _ (k : some (elems_of z) ≡ false) where
+    pub arguments_done : some (elems_of y) ≡ false → ArgumentsGive x p c s out (Some s) out
+    arguments_done h = done_at 4 match_arguments x p c s out (λ m. arguments_end x (elems_of p) (elems_of c) m (rw (← e) h) (rw (← f) k))
 
-  at_z : elems (ce + i) z ≡ find_expression (elems ce c)
-  at_z = ap (λ (l : List ℕ). elems (ce + i) l) behind-c ∙ find-c ce
+    absent : some (elems_of y) ≡ true → (m : ℕ) → match_arguments (suc m) x (elems_of p) (elems_of c) ≡ failed
+    unfolding match_node
+    absent h m = rw (← e, h, ← f, opt_absent x (elems_of y) (elems_of z) m h k) (failed_first (match_arguments m x (rest (elems_of y)) (rest (elems_of z))))
 
-  pub arguments_done : (r : Answer) → length y < 3 → length z < 3 → r ≡ record { ok = true; state = s } → ArgumentsGive x pe p ce c s out r out
-  arguments_done r h k f = by_suc _ (λ m g. gives_same
-      (arguments_end x (elems pe p) (elems ce c) m (ap some (sym at_y) ∙ some_short (pe + j) y h) (ap some (sym at_z) ∙ some_short (ce + i) z k)) f)
+    pub arguments_left : some (elems_of y) ≡ true → ArgumentsGive x p c s out None out
+    arguments_left h = fails_at 4 match_arguments x p c s out out (absent h) refl
 
-  absent : (m : ℕ) → 3 ≤ length y → length z < 3 → match_arguments (suc m) x (elems pe p) (elems ce c) ≡ failed
-  unfolding match_node
-  absent m h k =
-      rw (
-        ap some (sym at_y) ∙ some_long (pe + j) y h,
-        opt_absent x (find_expression (elems pe p)) (find_expression (elems ce c)) m (ap some (sym at_y) ∙ some_long (pe + j) y h)
-            (ap some (sym at_z) ∙ some_short (ce + i) z k),
-      ) (failed-first (match_arguments m x (rest (find_expression (elems pe p))) (rest (find_expression (elems ce c)))))
+  module _ (k : some (elems_of z) ≡ true) (v : length y.words.now ≤ length p.words.now) (w : length z.words.now ≤ length c.words.now) where
+    pub arguments_fail : (out' : List ℕ) → OptGives x y z s out None out' → ArgumentsGive x p c s out None out'
+    arguments_fail out' g = first_fails 4 match_arguments x p c s out 3 match_opt y z (omega (arith, v, w)) (λ m. match_arguments m x (rest (elems_of y)) (rest (elems_of z)))
+        (λ m. arguments_step x (elems_of p) (elems_of c) m (rw (← f) k) ∙ rw (← e, ← f)) out' g
 
-  pub arguments_more : (r : Answer) → 3 ≤ length y → length z < 3 → r ≡ no_match → ArgumentsGive x pe p ce c s out r out
-  arguments_more r h k f = by_suc _ (λ m g. gives_no (absent m h k) f refl)
-
-  pub arguments_fail : (r r' : Answer) (out' : List ℕ) → 3 ≤ length z → OptGives x (pe + j) y (ce + i) z s out r out' → r.ok ≡ false → r' ≡ no_match
-      → ArgumentsGive x pe p ce c s out r' out'
-  arguments_fail r r' out' k g e f = by_suc _ (λ m h. same_gives (arguments_turn x (elems pe p) (elems ce c) m (ap some (sym at_z) ∙ some_long (ce + i) z k))
-      (first_fails _ s out r out' r' _ (rw (← at_y, ← at_z) (g m (omega (arith, h, ap length behind-p, length-drop (j * 3) p, ap length behind-c, length-drop (i * 3) c)))) e f))
-
-  pub arguments_next : (r : Answer) (t : State) (out' : List ℕ) (k w : ℕ) (v u : List ℕ) → 3 ≤ length z → OptGives x (pe + j) y (ce + i) z s out r out' → r.ok ≡ true → t ≡ r.state
-      → ((e : ℕ) → elems (e + k) (drop (k * 3) y) ≡ rest (elems e y)) → ((e : ℕ) → elems (e + w) (drop (w * 3) z) ≡ rest (elems e z)) → (1 ≤ w) × (w * 3 ≤ length z)
-      → v ≡ drop (k * 3) y → u ≡ drop (w * 3) z
-      → (a : Answer) (end : List ℕ) → ArgumentsGive x (pe + (j + k)) v (ce + (i + w)) u t out' a end → ArgumentsGive x pe p ce c s out a end
-  arguments_next r t out' k w v u some-z g e f pass-y pass-z within behind-y behind-z a end l = by_suc _ (λ m h.
-      same_gives (arguments_turn x (elems pe p) (elems ce c) m (ap some (sym at_z) ∙ some_long (ce + i) z some-z))
-      (both_match _ s out r out' a _ t end (rw (← at_y, ← at_z) (g m (omega (arith, h, ap length behind-p, length-drop (j * 3) p, ap length behind-c, length-drop (i * 3) c)))) e f
-      (rw (← at_y, ← at_z, ← pass-y (pe + j), ← pass-z (ce + i)) (rw (number pe j k, number ce i w, behind-y, behind-z) at (l m (omega (
-        arith,
-        h,
-        within.0,
-        within.1,
-        ap length behind-p,
-        length-drop (j * 3) p,
-        ap length behind-c,
-        length-drop (i * 3) c,
-        ap length behind-y,
-        length-drop (k * 3) y,
-        ap length behind-z,
-        length-drop (w * 3) z,
-      )))))))
-    where
-      number : (a b d : ℕ) → a + (b + d) ≡ a + b + d
-      number a b d = omega arith
+    pub arguments_turn : (u : Turn) (out' : List ℕ) (t : State) → OptGives x y z s out (Some t) out' → u.state ≡ t → elems_of u.p ≡ rest (elems_of y) → elems_of u.c ≡ rest (elems_of z)
+        → length u.p.words.now ≤ length y.words.now - 3 → length u.c.words.now ≤ length z.words.now - 3 → GoesOn (ArgumentsGive x) (ArgumentsGive x) p c s out u out'
+    arguments_turn u out' t g b i j l o = record {
+      right = λ a end r. both_match 4 match_arguments x p c s out 3 match_opt y z (omega (arith, v, w)) (λ m. match_arguments m x (elems_of u.p) (elems_of u.c))
+          (λ m. arguments_step x (elems_of p) (elems_of c) m (rw (← f) k) ∙ rw (← e, ← f, ← i, ← j)) t out' a end g (λ m h. rw (← b) (r.gives m (omega (arith, long_some z.number z.words.now k, v, w, l, o, h))));
+    }

@@ -1,18 +1,18 @@
 -- By order, where no comment is laid: the comments of pairs left out before are counted once more, where they are met or at the end alike.
 -- Assumes nothing.
 use mathlib.Core.Path.{◌≡◌, refl, sym, ap, ◌∙◌, subst}
-use mathlib.Core.Bool.{Bool, true, false, not, ◌&&◌, false≢true}
+use mathlib.Core.Bool.{Bool, true, false, not, ◌&&◌}
 use mathlib.Core.List.{List, ◌++◌}
-use Prim.Native.Nat.{ℕ, suc, ◌+◌, ◌≤◌, ◌<◌}
+use Prim.Native.Nat.{ℕ, suc, ◌≤◌, ◌<◌}
 use native.Mathlib.Omega.{arith}
 use lib.ListN.{length}
+use Rattle.std.proofs.Common.{Option, Some, None}
 use Rattle.syntax.specs.Trees.{Elems}
 use Rattle.syntax.specs.Accessors.{rest}
-use Rattle.siblings.specs.Siblings.{is_a_node, is_a_token, skip_trivia}
+use Rattle.syntax.specs.Siblings.{is_a_node, is_a_token, skip_trivia}
 use Rattle.captures.specs.Attempts.{Event, Attempt, failed, matched, and_then, notes}
-use Rattle.captures.specs.Effects.{recorded, laid_by, no_match, Gives, Leads}
+use Rattle.captures.specs.Effects.{recorded, laid_by, Gives, Leads}
 use Rattle.captures.specs.declared.State.{State}
-use Rattle.captures.specs.declared.Answer.{Answer}
 use Rattle.captures.proofs.AttemptLaws.{laid-append, laid-length, recorded-append, fails_then}
 use Rattle.captures.proofs.AgainLaws.{notes-later, laid_silent, silent_stays}
 use Rattle.matcher.specs.Matcher.{Matcher, has_placeholder_name}
@@ -26,8 +26,8 @@ use Rattle.matching.proofs.TurnLaws.{Acted, acted}
 -- ---- attempts and what is behind them
 
 -- no match of the first is no match
-pub none_after : (a z : Attempt) (s : State) (out out' : List ℕ) → Gives a s out no_match out' → Gives (and_then a z) s out no_match out'
-none_after a z s out out' g = fails_then a z s out no_match out' g refl
+pub none_after : (a z : Attempt) (s : State) (out out' : List ℕ) → Gives a s out None out' → Gives (and_then a z) s out None out'
+none_after a z s out out' g = fails_then a z s out out' g
 
 -- a pair whose comments count twice: at once, or behind all
 module _ (es zs : List Event) (s t u : State) (out : List ℕ) (silent : is_silent s out ≡ true) (f : t ≡ recorded (length out) es s) (g : u ≡ recorded
@@ -47,41 +47,43 @@ module _ (es zs : List Event) (s t u : State) (out : List ℕ) (silent : is_sile
 
   pub twice : (b : Attempt) → Leads (and_then b (matched zs)) (and_then (and_then (matched es) b) (matched (notes es ++ zs))) s out u out
   unfolding and_then
-  twice failed r end h = record { answer = h.answer; buffer = h.buffer }
-  twice (matched os) r end h = record {
-    answer = h.answer ∙ ap (λ (v : State). record { ok = true; state = v }) (together os);
-    buffer = h.buffer ∙ laid_silent (os ++ zs) u out stays ∙ sym (laid_silent ((es ++ os) ++ (notes es ++ zs)) s out silent);
+  twice failed = record { gives = λ r end h. record { answer = h.answer; buffer = h.buffer } }
+  twice (matched os) = record {
+    gives = λ r end h. record {
+      answer = h.answer ∙ ap (λ (v : State). Some v) (together os);
+      buffer = h.buffer ∙ laid_silent (os ++ zs) u out stays ∙ sym (laid_silent ((es ++ os) ++ (notes es ++ zs)) s out silent);
+    };
   }
 
 -- a step of a loop, for each bound, with comments behind it
 module _ (left whole : ℕ → Attempt) (low high : ℕ) (more : (m n : ℕ) → m ≤ n → Below (left m) (left n)) (s t : State) (out out' : List ℕ)
-    (goes : (a : Answer) (end : List ℕ) → ((n : ℕ) → low < n → Gives (left n) t out' a end) → (n : ℕ) → high < n → Gives (whole n) s out a end) (zs :
+    (goes : (a : Option State) (end : List ℕ) → ((n : ℕ) → low < n → Gives (left n) t out' a end) → (n : ℕ) → high < n → Gives (whole n) s out a end) (zs :
     List Event) where
-  fails_all : (end : List ℕ) → ((n : ℕ) → low < n → Gives (and_then (left n) (matched zs)) t out' no_match end) → (n : ℕ) → high < n → Gives (and_then
-      (whole n) (matched zs)) s out no_match end
+  fails_all : (end : List ℕ) → ((n : ℕ) → low < n → Gives (and_then (left n) (matched zs)) t out' None end) → (n : ℕ) → high < n → Gives (and_then
+      (whole n) (matched zs)) s out None end
   unfolding and_then
-  fails_all end g n h = none_after (whole n) (matched zs) s out end (goes no_match end (λ m k. by (left m) (g m k)) n h)
+  fails_all end g n h = none_after (whole n) (matched zs) s out end (goes None end (λ m k. by (left m) (g m k)) n h)
     where
-      by : (a : Attempt) → Gives (and_then a (matched zs)) t out' no_match end → Gives a t out' no_match end
+      by : (a : Attempt) → Gives (and_then a (matched zs)) t out' None end → Gives a t out' None end
       by failed q = q
-      by (matched es) q = absurd (false≢true (ap (λ (r : Answer). r.ok) q.answer))
+      by (matched es) q = absurd (let h = q.answer in let z : ◌≡◌ {A = ℕ} 0 1 = cc in omega arith)
 
   module _ (os : List Event) (same : (n : ℕ) → low < n → left n ≡ matched os) (n : ℕ) (h : high < n) where
     there : Acted (whole n) s out (recorded (length out') os t) (laid_by os t out')
-    there = acted (whole n) s out (record { ok = true; state = recorded (length out') os t }) (laid_by os t out')
-        (goes (record { ok = true; state = recorded (length out') os t }) (laid_by os t out') (λ m k. rw (same m k) (record {
+    there = acted (whole n) s out (recorded (length out') os t) (laid_by os t out')
+        (goes (Some (recorded (length out') os t)) (laid_by os t out') (λ m k. rw (same m k) (record {
           answer = refl;
           buffer =
               refl;
-        })) n h) refl
+        })) n h)
 
     lengths : length out' ≡ length out
     lengths = sym (laid-length os t out') ∙ ap length there.buffer ∙ laid-length there.events s out
 
-    ends : (a : Answer) (end : List ℕ) → Gives (matched (os ++ zs)) t out' a end → Gives (and_then (whole n) (matched zs)) s out a end
+    ends : (a : Option State) (end : List ℕ) → Gives (matched (os ++ zs)) t out' a end → Gives (and_then (whole n) (matched zs)) s out a end
     unfolding and_then
     ends a end g = rw there.matches (record {
-      answer = g.answer ∙ ap (λ (v : State). record { ok = true; state = v }) (recorded-append (length out') os zs t ∙ ap (recorded (length out')
+      answer = g.answer ∙ ap (λ (v : State). Some v) (recorded-append (length out') os zs t ∙ ap (recorded (length out')
           zs) there.state
           ∙ ap (λ (k : ℕ). recorded k zs (recorded (length out) there.events s)) lengths ∙ sym (recorded-append (length out) there.events zs
           s));
@@ -90,7 +92,7 @@ module _ (left whole : ℕ → Attempt) (low high : ℕ) (more : (m n : ℕ) →
           ∙ sym (laid-append there.events zs s out);
     })
 
-  pub after_turn : (a : Answer) (end : List ℕ) → ((n : ℕ) → low < n → Gives (and_then (left n) (matched zs)) t out' a end) → (n : ℕ) → high < n →
+  pub after_turn : (a : Option State) (end : List ℕ) → ((n : ℕ) → low < n → Gives (and_then (left n) (matched zs)) t out' a end) → (n : ℕ) → high < n →
       Gives (and_then (whole n) (matched zs)) s out a end
   unfolding and_then
   after_turn a end g n h = by (left (suc low)) refl
@@ -98,8 +100,8 @@ module _ (left whole : ℕ → Attempt) (low high : ℕ) (more : (m n : ℕ) →
       by : (l : Attempt) → left (suc low) ≡ l → Gives (and_then (whole n) (matched zs)) s out a end
       by failed e =
           let f : Gives failed t out' a end = subst (λ (l : Attempt). Gives (and_then l (matched zs)) t out' a end) e (g (suc low) (omega arith)) in
-          subst (λ (r : Answer). Gives (and_then (whole n) (matched zs)) s out r end) (sym f.answer)
-          (fails_all end (λ m k. subst (λ (r : Answer). Gives (and_then (left m) (matched zs)) t out' r end) f.answer (g m k)) n h)
+          subst (λ (r : Option State). Gives (and_then (whole n) (matched zs)) s out r end) (sym f.answer)
+          (fails_all end (λ m k. subst (λ (r : Option State). Gives (and_then (left m) (matched zs)) t out' r end) f.answer (g m k)) n h)
       by (matched os) e =
           ends os (λ m k. more (suc low) m (omega (arith, k)) os e) n h a end
           (subst (λ (l : Attempt). Gives (and_then l (matched zs)) t out' a end) e (g (suc low) (omega arith)))

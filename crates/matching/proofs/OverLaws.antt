@@ -9,31 +9,33 @@ use native.Mathlib.Nat.{le_of_suc-le-suc, not-suc-le-zero}
 use native.Mathlib.Omega.{arith}
 use lib.Dec.{eqb}
 use lib.ListN.{length, drop}
+use lib.Seq.{drop-drop}
 use borrow.Author.Tests.{eqb-true}
+use Rattle.std.proofs.Common.{Option, Some}
 use Rattle.words.proofs.TestLaws.{and_both, or_neither, or_second, low_or}
 use Rattle.syntax.specs.Parts.{span}
 use Rattle.syntax.specs.Trees.{Elems, none, token, node, elems}
 use Rattle.syntax.specs.Accessors.{rest, some, number_of, between, or_else}
 use Rattle.syntax.proofs.TreeLaws.{elems_end}
 use Rattle.syntax.proofs.AccessorLaws.{rest_are, number_is}
-use Rattle.siblings.specs.Siblings.{kind_of, is_a_node, is_a_token, is_trivia, skip_tokens, skip_trivia}
-use Rattle.siblings.proofs.SiblingLaws.{trivia_is_token, some_node, long_some, skip-here, skip-next}
+use Rattle.syntax.specs.Siblings.{kind_of, is_a_node, is_a_token, is_trivia, skip_tokens, skip_trivia}
+use Rattle.syntax.proofs.SiblingLaws.{trivia_is_token, some_node, long_some, skip_here, skip_next}
 use Rattle.captures.specs.Attempts.{Event, Attempt, failed, matched, and_then, given, notes, notes_of}
 use Rattle.captures.specs.Effects.{recorded, Gives}
 use Rattle.captures.specs.declared.State.{State}
-use Rattle.captures.specs.declared.Answer.{Answer}
 use Rattle.captures.proofs.AttemptLaws.{then_assoc, then_nothing, recorded-append}
 use Rattle.captures.proofs.PartLaws.{fails_not, parted}
 use Rattle.captures.proofs.AgainLaws.{notes-later, binds, Covers, binds-append, left_out, laid_silent}
 use Rattle.matcher.specs.Matcher.{Matcher, has_placeholder_name}
 use Rattle.matcher.specs.Tokens.{skips, is_extra, past_separator, is_same_token, matches_token, after_token, note}
-use Rattle.matcher.proofs.TokenLaws.{same_token_is, pass_more, pass_none}
+use Rattle.matcher.proofs.TokenLaws.{same_token_is}
 use Rattle.record_fields.specs.Fields.{pattern_name, are_asked, is_free, is_field, last_field}
 use Rattle.matching.specs.RecordFields.{match_fields}
 use Rattle.matching.specs.Matching.{match_node, match_sequences, match_opt}
 use Rattle.ordered_fields.specs.Order.{starts_over, next, past, partner, is_same}
 use Rattle.matching.specs.StartingOver.{by_name, again, is_silent}
-use Rattle.matching.proofs.StepLaws.{same_gives, opt_both, sequence_end, sequence_trivia, sequence_token, sequence_other-token, sequence_node, sequence_other}
+use Rattle.matching.proofs.GiveLaws.{same_gives}
+use Rattle.matching.proofs.StepLaws.{opt_both, sequence_end, sequence_trivia, sequence_token, sequence_other-token, sequence_node, sequence_other}
 
 -- ---- the fields by name and what comes behind them
 
@@ -56,16 +58,16 @@ module _ (f : Elems → Elems → Attempt) (o : Attempt) (x : Matcher) (ps cs : 
       (λ _. fields_over r (past (token i k s e r) d) h)
   fields_over (node i k s e ds r) d h =
       let q = node i k s e ds r in
-      over-step (has_placeholder_name x q) (some (pattern_name q)) (is_free x.code ps q) (f q (partner x cs q)) o (match_fields f o x ps cs r) (by_name
+      over-step (has_placeholder_name x q) (some (pattern_name q)) (is_free x ps q) (f q (partner x cs q)) o (match_fields f o x ps cs r) (by_name
       false f x ps cs r (past q d))
       (λ p. fields_over r (past q d) (or_second (has_placeholder_name x q) (starts_over x r) p h))
 
   -- none has: each field of the code that has a name must be asked for
   abbrev asked : Attempt
-  asked = given (are_asked x.code x.facts x.tree x.text ps cs)
+  asked = given (are_asked x ps cs)
 
   pub fields_plain : (q d : Elems) → starts_over x q ≡ false
-      → match_fields f o x ps cs q ≡ and_then (by_name false f x ps cs q d) (given (are_asked x.code x.facts x.tree x.text ps cs))
+      → match_fields f o x ps cs q ≡ and_then (by_name false f x ps cs q d) (given (are_asked x ps cs))
   unfolding match_fields starts_over by_name
   fields_plain none d h = sym (then_nothing asked)
   fields_plain (token i k s e r) d h =
@@ -74,7 +76,7 @@ module _ (f : Elems → Elems → Attempt) (o : Attempt) (x : Matcher) (ps cs : 
   fields_plain (node i k s e ds r) d h =
       let q = node i k s e ds r in
       let p = or_neither (has_placeholder_name x q) (starts_over x r) h in
-      rw p.0 (over-step false (some (pattern_name q)) (is_free x.code ps q) (f q (partner x cs q)) asked (match_fields f o x ps cs r) (by_name
+      rw p.0 (over-step false (some (pattern_name q)) (is_free x ps q) (f q (partner x cs q)) asked (match_fields f o x ps cs r) (by_name
       false f x ps cs r (past q d))
       (λ _. fields_plain r (past q d) p.1))
 
@@ -117,16 +119,26 @@ module _ (cs : Elems) where
   if_tail true c t h = t
   if_tail false c t h = absurd (false≢true h)
 
-  module _ (facts : List ℕ) (tree : Elems) (text : List ℕ) (kind : ℕ) (name : List ℕ) where
-    last_tail : (c : Elems) → Tail cs c → some (last_field facts tree text kind name c) ≡ true → Tail cs (last_field facts tree text kind name c)
+  module _ (x : Matcher) (kind : ℕ) (name : List ℕ) where
+    pub last_tail : (c : Elems) → Tail cs c → some (last_field x kind name c) ≡ true → Tail cs (last_field x kind name c)
     unfolding last_field
     last_tail none t h = t
     last_tail (token i k s e r) t h = last_tail r (further (token i k s e r) t) h
     last_tail (node i k s e ds r) t h =
-        let c = node i k s e ds r in let b = is_field facts tree text kind name c in
-        or_tail (last_field facts tree text kind name r) (cond b c none) (last_tail r (further c t)) (if_tail b c t) h
+        let c = node i k s e ds r in let b = is_field x kind name c in
+        or_tail (last_field x kind name r) (cond b c none) (last_tail r (further c t)) (if_tail b c t) h
 
 -- ---- the numbers of siblings that words are
+
+-- passing some elements and then others
+pass_more : (i n m : ℕ) (l : List ℕ) → elems (i + (n + m)) (drop ((n + m) * 3) l) ≡ elems (i + n + m) (drop (m * 3) (drop (n * 3) l))
+pass_more i n m l =
+    let q : i + (n + m) ≡ i + n + m = omega arith in
+    let r : (n + m) * 3 ≡ n * 3 + m * 3 = omega arith in
+    rw (q, r, drop-drop (m * 3) (n * 3) l)
+
+pass_none : (i : ℕ) (l : List ℕ) → elems (i + 0) l ≡ elems i l
+pass_none i l = let q : i + 0 ≡ i = omega arith in rw q
 
 -- what is left of them begins behind some elements
 record Place (i : ℕ) (l : List ℕ) (a : Elems) : Type 0 where
@@ -213,7 +225,7 @@ module _ (P : Elems → Elems → Type 0) where
       let q = node i k s e ds r in (subst (λ (c : Elems). P q c) h a.0, subst (λ (c : Elems). AllBeside P r (rest c)) h a.1)
 
   beside_rest : (q c : Elems) → is_a_token c ≡ true → AllBeside P q (rest c) → AllBeside P q c
-  beside_rest q c h a = beside_code q (rest c) c (sym (skip-next 1 1023 c h)) a
+  beside_rest q c h a = beside_code q (rest c) c (sym (skip_next 1 1023 c h)) a
 
   -- the pattern's tokens that one token of the code passes
   module _ (x : Matcher) (p c d : Elems) where
@@ -287,7 +299,7 @@ module _ (x : Matcher) (P : Elems → Elems → Type 0) where
         along_node k true m =
             let p = skip_trivia ps in
             let b = parted (match_node n x p cs) (match_sequences n x (rest p) (rest cs)) os (sym (sequence_node x ps cs n e t k m) ∙ h) in
-            let c : next cs ≡ cs = skip-here 1 1023 cs k in
+            let c : next cs ≡ cs = skip_here 1 1023 cs k in
             let v : Covers os b.first = subst (λ (us : List Event). Covers us b.first) (sym b.whole) (covers-first b.first b.second) in
             beside_trivia P ps cs (beside_node P p cs m
             (rw (c) (f n p cs b.first (omega arith) (some_node p m) e b.first_is v))
@@ -382,7 +394,7 @@ module _ (f : Elems → Elems → Attempt) (x : Matcher) (ps cs : Elems) (os : L
   is_next q d t h =
       let p = and_both (some (partner x cs q) && some (next d)) (eqb (number_of (partner x cs q)) (number_of (next d))) h in
       let m = and_both (some (partner x cs q)) (some (next d)) p.0 in
-      unique (partner x cs q) (next d) (last_tail cs x.facts x.tree x.text _ _ cs whole m.0) (skip_tail cs 1 1023 d t) m.0 m.1
+      unique (partner x cs q) (next d) (last_tail cs x _ _ cs whole m.0) (skip_tail cs 1 1023 d t) m.0 m.1
       (eqb-true (number_of (partner x cs q)) (number_of (next d)) p.1)
 
   abbrev Beside : Elems → Elems → Type 0
@@ -400,13 +412,13 @@ module _ (f : Elems → Elems → Attempt) (x : Matcher) (ps cs : Elems) (os : L
       let q = node i k s e ds r in
       let b = by_name true f x ps cs r (past q d) in let c = by_name false f x ps cs r (past q d) in let ns = again f x cs r (past q d) in
       agree_if os (has_placeholder_name x q) _ _ _
-      (agree-field os (some (pattern_name q)) (is_free x.code ps q) (is_same (partner x cs q) (next d)) (f q (partner x cs q)) b c ns
+      (agree-field os (some (pattern_name q)) (is_free x ps q) (is_same (partner x cs q) (next d)) (f q (partner x cs q)) b c ns
       (λ g. rw (is_next q d t (and_both (some (pattern_name q)) (is_same (partner x cs q) (next d)) g).1) h.0)
       (agree_fields r (past q d) (past_tail cs q d t) h.1))
 
 -- ---- what is right with pairs left out is right with all
 
-gives_agreed : (b d o : Attempt) (ns : List Event) (s : State) (out : List ℕ) (r : Answer) (end : List ℕ) → is_silent s out ≡ true
+gives_agreed : (b d o : Attempt) (ns : List Event) (s : State) (out : List ℕ) (r : Option State) (end : List ℕ) → is_silent s out ≡ true
     → ((os : List Event) → o ≡ matched os → Agree os b d ns) → Gives (and_then b (and_then o (matched ns))) s out r end → Gives (and_then d o) s out r
     end
 unfolding and_then
@@ -418,7 +430,7 @@ gives_agreed failed failed (matched os) ns s out r end h f g = g
 gives_agreed failed (matched fs) (matched os) ns s out r end h f g = absurd (f os refl)
 gives_agreed (matched gs) failed (matched os) ns s out r end h f g = absurd (f os refl)
 gives_agreed (matched gs) (matched fs) (matched os) ns s out r end h f g = record {
-  answer = g.answer ∙ ap (λ (t : State). let a : Answer = record { ok = true; state = t } in a) (f os refl (length out) s);
+  answer = g.answer ∙ ap (λ (t : State). Some t) (f os refl (length out) s);
   buffer = g.buffer ∙ laid_silent (gs ++ (os ++ ns)) s out h ∙ sym (laid_silent (fs ++ os) s out h);
 }
 
@@ -432,7 +444,7 @@ opt_below more (suc n) m x q e es l h k r = opt_both x q e n h k ∙ more m n (l
 -- THE SAME WITH PAIRS LEFT OUT, where a higher bound changes nothing of a match
 module _ (more : (m n : ℕ) → m ≤ n → (x : Matcher) (p c : Elems) (es : List Event) → match_node m x p c ≡ matched es → match_node n x p c ≡ matched es)
   where
-    pub start-over : (n : ℕ) (x : Matcher) (ps cs : Elems) (s : State) (out : List ℕ) (r : Answer) (end : List ℕ) → is_silent s out ≡ true → starts_over
+    pub start-over : (n : ℕ) (x : Matcher) (ps cs : Elems) (s : State) (out : List ℕ) (r : Option State) (end : List ℕ) → is_silent s out ≡ true → starts_over
         x ps ≡ true → Unique cs
         → Gives (and_then (by_name true (λ q e. match_opt n x q e) x ps cs ps cs) (and_then (match_sequences n x ps cs) (matched (again (λ q e. match_opt n x
         q e) x cs ps cs)))) s out r end
@@ -456,7 +468,7 @@ module _ (more : (m n : ℕ) → m ≤ n → (x : Matcher) (p c : Elems) (es : L
             }))
 
     -- for siblings that words are
-    pub start-over-words : (n : ℕ) (x : Matcher) (ps : Elems) (i : ℕ) (l : List ℕ) (s : State) (out : List ℕ) (r : Answer) (end : List ℕ) → is_silent s
+    pub start-over-words : (n : ℕ) (x : Matcher) (ps : Elems) (i : ℕ) (l : List ℕ) (s : State) (out : List ℕ) (r : Option State) (end : List ℕ) → is_silent s
         out ≡ true → starts_over x ps ≡ true
         → Gives (and_then (by_name true (λ q e. match_opt n x q e) x ps (elems i l) ps (elems i l))
         (and_then (match_sequences n x ps (elems i l)) (matched (again (λ q e. match_opt n x q e) x (elems i l) ps (elems i l))))) s out r end

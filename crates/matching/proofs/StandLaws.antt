@@ -15,7 +15,7 @@ use Rattle.words.specs.Buffer.{laid}
 use Rattle.words.proofs.TestLaws.{and_of}
 use Rattle.syntax.specs.Trees.{Elems, none}
 use Rattle.syntax.specs.Accessors.{rest, some}
-use Rattle.siblings.specs.Siblings.{is_a_node, is_a_token, skip_trivia}
+use Rattle.syntax.specs.Siblings.{is_a_node, is_a_token, skip_trivia}
 use Rattle.captures.specs.declared.State.{State}
 use Rattle.captures.specs.Attempts.{Event, Bound, Noted, Attempt, matched, and_then, given, comments}
 use Rattle.captures.specs.Effects.{place_behind, recorded_one, recorded, laid_one, laid_by}
@@ -26,8 +26,12 @@ use Rattle.record_fields.specs.Fields.{pattern_name, is_free}
 use Rattle.ordered_fields.specs.Order.{next, partner}
 use Rattle.matching.specs.StartingOver.{field_by_name, by_name}
 use Rattle.matching.specs.Matching.{Stood}
-use Rattle.matching.proofs.MeasuredLaws.{all-four}
 use Rattle.matching.proofs.AlongLaws.{next_trivia, by_next, by_node}
+
+-- ---- four tests
+
+pub all-four : (a b k d : Bool) → a ≡ true → b ≡ true → k ≡ false → d ≡ true → (a && b && not k && d) ≡ true
+all-four a b k d e f g h = rw (e, f, g, h)
 
 -- ---- bytes before the place
 
@@ -102,9 +106,9 @@ module _ (f : Elems → Elems → Attempt) (x : Matcher) (ps cs p : Elems) (befo
     -- the pair by name, where it has a name
     pub named_matches : some (pattern_name (skip_trivia p)) ≡ true → f (skip_trivia p) (partner x cs (skip_trivia p)) ≡ matched parts.first
     named_matches e =
-        let g : and_then (given (is_free x.code ps (skip_trivia p))) (f (skip_trivia p) (partner x cs (skip_trivia p))) ≡ matched parts.first = rw
+        let g : and_then (given (is_free x ps (skip_trivia p))) (f (skip_trivia p) (partner x cs (skip_trivia p))) ≡ matched parts.first = rw
         (e) at parts.first_is in
-        let q = parted _ _ parts.first g in let v = given_holds (is_free x.code ps (skip_trivia p)) q.first q.first_is in
+        let q = parted _ _ parts.first g in let v = given_holds (is_free x ps (skip_trivia p)) q.first q.first_is in
         q.second_is ∙ ap matched (sym (q.whole ∙ ap (λ (l : List Event). l ++ q.second) v.1))
 
     unnamed_nothing : some (pattern_name (skip_trivia p)) ≡ false → parts.first ≡ []

@@ -1,18 +1,15 @@
 -- One step of each definition of matching, by what its tests say.
 -- Assumes nothing.
-use mathlib.Core.Path.{◌≡◌, refl, sym, subst}
+use mathlib.Core.Path.{◌≡◌, refl}
 use mathlib.Core.Bool.{Bool, true, false, not, ◌&&◌}
-use mathlib.Core.List.{List, []}
-use Prim.Native.Nat.{ℕ, zero, suc, ◌≤◌, ◌<◌}
-use native.Mathlib.Nat.{le_of_suc-le-suc, not-suc-le-zero}
-use lib.Dec.{eqb, ltb}
+use mathlib.Core.List.{[]}
+use Prim.Native.Nat.{ℕ, suc}
+use lib.Dec.{eqb}
+use Rattle.std.proofs.Common.{Some, None}
 use Rattle.syntax.specs.Trees.{Elems}
 use Rattle.syntax.specs.Accessors.{children, rest, number_of, some, node_in, first_child, find_expression}
-use Rattle.siblings.specs.Siblings.{kind_of, is_a_node, is_a_token, is_trivia, skip_trivia}
-use Rattle.captures.specs.Attempts.{Attempt, failed, matched, and_then, given}
-use Rattle.captures.specs.Effects.{Gives}
-use Rattle.captures.specs.declared.State.{State}
-use Rattle.captures.specs.declared.Answer.{Answer}
+use Rattle.syntax.specs.Siblings.{kind_of, is_a_node, is_a_token, is_trivia, skip_trivia}
+use Rattle.captures.specs.Attempts.{failed, matched, and_then, given}
 use Rattle.captures.proofs.AttemptLaws.{given_true, given_false}
 use Rattle.matcher.specs.Matcher.{Matcher, slot_of, is_resolved, is_a_call}
 use Rattle.matcher.specs.Tokens.{matches_token, after_token, note}
@@ -20,39 +17,29 @@ use Rattle.token_trees.specs.TokenTrees.{match_token_tree}
 use Rattle.calls.specs.Calls.{call_of, first_fits, same_resolution}
 use Rattle.matching.specs.Matching.{capture, match_node, match_by_kind, match_sequences, match_opt, match_path, match_segments, match_record_field_list, match_ufcs, match_method_call, match_arguments}
 
--- what holds at each bound above k holds where it is one more than some m that is not below k
-pub by_suc : (G : ℕ → Type 0) {k : ℕ} → ((m : ℕ) → k ≤ m → G (suc m)) → (n : ℕ) → k < n → G n
-by_suc G f zero h = absurd (not-suc-le-zero h)
-by_suc G f (suc m) h = f m (le_of_suc-le-suc h)
-
--- what is right for an attempt is right for the same attempt
-pub same_gives : {a b : Attempt} {s : State} {out : List ℕ} {r : Answer} {end : List ℕ} → a ≡ b → Gives b s out r end → Gives a s out r end
-same_gives {a} {b} {s} {out} {r} {end} e g = subst (λ (d : Attempt). Gives d s out r end) (sym e) g
-
 module _ (x : Matcher) (p c : Elems) (n : ℕ) where
   -- ---- nodes
-  pub node_takes : ltb (slot_of x p) 8 ≡ true → match_node (suc n) x p c ≡ capture x (slot_of x p) c
+  pub node_takes : (slot : ℕ) → slot_of x p ≡ Some slot → match_node (suc n) x p c ≡ capture x slot c
   unfolding match_node
-  node_takes h = rw (h)
+  node_takes slot h = rw h
 
-  pub node_method : ltb (slot_of x p) 8 ≡ false → (is_a_call (call_of x p) && node_in 65 65 c) ≡ true → match_node (suc n) x p c ≡ match_method_call n x p c
-  unfolding match_node
-  node_method h m = rw (h, m)
+  module _ (h : slot_of x p ≡ None) where
+    pub node_method : (is_a_call (call_of x p) && node_in 65 65 c) ≡ true → match_node (suc n) x p c ≡ match_method_call n x p c
+    unfolding match_node
+    node_method m = rw (h, m)
 
-  pub node_ufcs : ltb (slot_of x p) 8 ≡ false → (is_a_call (call_of x p) && node_in 65 65 c) ≡ false → (is_a_call (call_of x p) && node_in 64 64 c) ≡ true
-      → match_node (suc n) x p c ≡ match_ufcs n x p c
-  unfolding match_node
-  node_ufcs h m u = rw (h, m, u)
+    module _ (m : (is_a_call (call_of x p) && node_in 65 65 c) ≡ false) where
+      pub node_ufcs : (is_a_call (call_of x p) && node_in 64 64 c) ≡ true → match_node (suc n) x p c ≡ match_ufcs n x p c
+      unfolding match_node
+      node_ufcs u = rw (h, m, u)
 
-  pub node_kind : ltb (slot_of x p) 8 ≡ false → (is_a_call (call_of x p) && node_in 65 65 c) ≡ false → (is_a_call (call_of x p) && node_in 64 64 c) ≡ false
-      → eqb (kind_of p) (kind_of c) ≡ true → match_node (suc n) x p c ≡ match_by_kind n x p c
-  unfolding match_node
-  node_kind h m u k = rw (h, m, u, k)
+      pub node_kind : (is_a_call (call_of x p) && node_in 64 64 c) ≡ false → eqb (kind_of p) (kind_of c) ≡ true → match_node (suc n) x p c ≡ match_by_kind n x p c
+      unfolding match_node
+      node_kind u k = rw (h, m, u, k)
 
-  pub node_other : ltb (slot_of x p) 8 ≡ false → (is_a_call (call_of x p) && node_in 65 65 c) ≡ false → (is_a_call (call_of x p) && node_in 64 64 c) ≡ false
-      → eqb (kind_of p) (kind_of c) ≡ false → match_node (suc n) x p c ≡ failed
-  unfolding match_node
-  node_other h m u k = rw (h, m, u, k)
+      pub node_other : (is_a_call (call_of x p) && node_in 64 64 c) ≡ false → eqb (kind_of p) (kind_of c) ≡ false → match_node (suc n) x p c ≡ failed
+      unfolding match_node
+      node_other u k = rw (h, m, u, k)
 
   pub kind_record : eqb (kind_of c) 8 ≡ true → match_by_kind (suc n) x p c ≡ match_record_field_list n x p c
   unfolding match_node

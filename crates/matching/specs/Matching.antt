@@ -2,19 +2,22 @@
 -- never changes the answer. An element is the first of a sequence of siblings; an absent one is the empty sequence. The number bounds the
 -- calls: more than five times the words of both sides is enough, and more changes nothing.
 -- Assumes nothing.
-use Rattle.std.specs.Prelude.{ℕ, zero, suc, ◌+◌, ◌*◌, ◌≤◌, ◌<◌, ◌≡◌, Bool, true, false, cond, not, ◌&&◌, ◌||◌, List, [], ◌∷◌, eqb, ltb, length, take, drop}
-use Rattle.syntax.specs.Trees.{Elems, none, elems}
+use Rattle.std.specs.Prelude.{ℕ, zero, suc, ◌+◌, ◌*◌, ◌≤◌, ◌<◌, ◌≡◌, Bool, true, false, cond, not, ◌&&◌, ◌||◌, List, [], ◌∷◌, Option, Some, None, eqb, length, take, drop, unwrap_or, option_map}
+use Rattle.syntax.specs.Trees.{Elems, none}
 use Rattle.syntax.specs.Accessors.{children, rest, number_of, some, node_in, first_child, find_expression}
-use Rattle.siblings.specs.Siblings.{kind_of, is_a_node, is_a_token, is_trivia, skip_trivia}
+use Rattle.syntax.specs.Siblings.{kind_of, is_a_node, is_a_token, is_trivia, skip_trivia}
+use Rattle.syntax.specs.Views.{elems_of}
+use Rattle.syntax.specs.declared.parts.Part.{Part}
 use Rattle.captures.specs.Attempts.{Event, Bound, Attempt, failed, matched, and_then, given, comments}
 use Rattle.captures.specs.Effects.{binding, recorded, laid_by, Gives}
 use Rattle.captures.specs.Turns.{Giving}
 use Rattle.captures.specs.declared.State.{State}
-use Rattle.captures.specs.declared.Answer.{Answer}
+use Rattle.captures.specs.declared.SelfKind.TheVariants.{Owned}
 use Rattle.captures.specs.declared.Turn.{Turn}
 use Rattle.matcher.specs.Matcher.{Matcher, slot_of, is_resolved, is_a_call}
 use Rattle.matcher.specs.Tokens.{matches_token, after_token, note}
 use Rattle.token_trees.specs.TokenTrees.{match_token_tree}
+use Rattle.record_fields.specs.declared.Lists.{Lists}
 use Rattle.calls.specs.Calls.{call_of, arguments_of, argument_of, receiver_of, first_fits, same_resolution, same_function, takes_receiver, receiver_fits, prefixed, arguments_left}
 use Rattle.matching.specs.RecordFields.{match_fields}
 use Rattle.ordered_fields.specs.Order.{next}
@@ -22,14 +25,14 @@ use Rattle.matching.specs.StartingOver.{field_by_name, by_name, again}
 
 -- a placeholder takes the node, where its constraints allow it; "LITERAL", kind 66
 abbrev pub capture : Matcher → ℕ → Elems → Attempt
-capture x slot c = cond (x.allows slot (node_in 66 66 c)) (matched (Bound slot (binding c c 0 0) ∷ [])) failed
+capture x slot c = cond (x.allows slot (node_in 66 66 c)) (matched (Bound slot (binding c c 0 Owned) ∷ [])) failed
 
 unfoldable mutual
   -- `attempt_match_node`
   pub match_node : ℕ → Matcher → Elems → Elems → Attempt
   match_node zero x p c = failed
   match_node (suc n) x p c =
-      cond (ltb (slot_of x p) 8) (capture x (slot_of x p) c)
+      unwrap_or (option_map (λ slot. capture x slot c) (slot_of x p))
       (cond (is_a_call (call_of x p) && node_in 65 65 c) (match_method_call n x p c)
       (cond (is_a_call (call_of x p) && node_in 64 64 c) (match_ufcs n x p c)
       (cond (eqb (kind_of p) (kind_of c)) (match_by_kind n x p c) failed)))
@@ -109,81 +112,76 @@ unfoldable mutual
       (and_then (match_opt n x (find_expression ps) (find_expression cs)) (match_arguments n x (rest (find_expression ps)) (rest (find_expression cs))))
       (matched [])
 
--- An answer and a buffer are right for the first elements, or for what is left, of words of both sides. A rank stands behind five times the
--- words: a function that hands both sides on as they are calls one of a lower rank.
-abbrev pub enough : ℕ → List ℕ → List ℕ → ℕ
-enough rank p c = 5 * (length p + length c) + rank
+-- An answer and a buffer are right for the first elements, or for what is left, at each bound that is enough. A rank stands behind five times
+-- the words of both sides: a function that hands both sides on as they are calls one of a lower rank.
+abbrev pub enough : ℕ → Part → Part → ℕ
+enough rank p c = 5 * (length p.words.now + length c.words.now) + rank
+
+pub record GivesFrom (rank : ℕ) (attempt : ℕ → Matcher → Elems → Elems → Attempt) (x : Matcher) (p c : Part) (s : State) (out : List ℕ) (r : Option State) (out' : List ℕ) : Type 0 where
+  pub gives : (n : ℕ) → enough rank p c < n → Gives (attempt n x (elems_of p) (elems_of c)) s out r out'
 
 abbrev pub NodeGives : Matcher → Giving
-NodeGives x pe p ce c s out r out' = (n : ℕ) → enough 2 p c < n → Gives (match_node n x (elems pe p) (elems ce c)) s out r out'
+NodeGives = GivesFrom 2 match_node
 
 abbrev pub ByKindGives : Matcher → Giving
-ByKindGives x pe p ce c s out r out' = (n : ℕ) → enough 1 p c < n → Gives (match_by_kind n x (elems pe p) (elems ce c)) s out r out'
+ByKindGives = GivesFrom 1 match_by_kind
 
 abbrev pub SequencesGive : Matcher → Giving
-SequencesGive x pe p ce c s out r out' = (n : ℕ) → enough 4 p c < n → Gives (match_sequences n x (elems pe p) (elems ce c)) s out r out'
+SequencesGive = GivesFrom 4 match_sequences
 
 abbrev pub OptGives : Matcher → Giving
-OptGives x pe p ce c s out r out' = (n : ℕ) → enough 3 p c < n → Gives (match_opt n x (elems pe p) (elems ce c)) s out r out'
+OptGives = GivesFrom 3 match_opt
 
 abbrev pub PathGives : Matcher → Giving
-PathGives x pe p ce c s out r out' = (n : ℕ) → enough 0 p c < n → Gives (match_path n x (elems pe p) (elems ce c)) s out r out'
+PathGives = GivesFrom 0 match_path
 
 abbrev pub SegmentsGive : Matcher → Giving
-SegmentsGive x pe p ce c s out r out' = (n : ℕ) → enough 0 p c < n → Gives (match_segments n x (elems pe p) (elems ce c)) s out r out'
+SegmentsGive = GivesFrom 0 match_segments
 
 abbrev pub RecordGives : Matcher → Giving
-RecordGives x pe p ce c s out r out' = (n : ℕ) → enough 0 p c < n → Gives (match_record_field_list n x (elems pe p) (elems ce c)) s out r out'
+RecordGives = GivesFrom 0 match_record_field_list
 
 abbrev pub UfcsGives : Matcher → Giving
-UfcsGives x pe p ce c s out r out' = (n : ℕ) → enough 0 p c < n → Gives (match_ufcs n x (elems pe p) (elems ce c)) s out r out'
+UfcsGives = GivesFrom 0 match_ufcs
 
 abbrev pub MethodCallGives : Matcher → Giving
-MethodCallGives x pe p ce c s out r out' = (n : ℕ) → enough 1 p c < n → Gives (match_method_call n x (elems pe p) (elems ce c)) s out r out'
+MethodCallGives = GivesFrom 1 match_method_call
 
 abbrev pub ReceiverGives : Matcher → Giving
-ReceiverGives x pe p ce c s out r out' = (n : ℕ) → enough 0 p c < n → Gives (match_receiver n x (elems pe p) (elems ce c)) s out r out'
+ReceiverGives = GivesFrom 0 match_receiver
 
 abbrev pub ArgumentsGive : Matcher → Giving
-ArgumentsGive x pe p ce c s out r out' = (n : ℕ) → enough 4 p c < n → Gives (match_arguments n x (elems pe p) (elems ce c)) s out r out'
+ArgumentsGive = GivesFrom 4 match_arguments
 
--- for one of the pattern's siblings, and for all of them, by name
-abbrev pub FieldGives : Bool → Matcher → ℕ → List ℕ → ℕ → ℕ → List ℕ → ℕ → State → List ℕ → Answer → List ℕ → Type 0
-FieldGives leaves x pe ps at ce cs beside s out r out' =
-    (n : ℕ) → enough 4 ps cs < n
-    → Gives (field_by_name leaves (λ q e. match_opt n x q e) x (elems pe ps) (elems ce cs) (elems (pe + at) (drop (at * 3) ps)) (elems (ce + beside)
-    (drop (beside * 3) cs))) s out r out'
+-- for one of the pattern's siblings, and for what is left of them, by name: among all siblings of the pattern and of the code
+pub record FieldGives (leaves : Bool) (x : Matcher) (l : Lists) (q d : Part) (s : State) (out : List ℕ) (r : Option State) (out' : List ℕ) : Type 0 where
+  pub gives : (n : ℕ) → enough 4 l.p l.c < n
+      → Gives (field_by_name leaves (λ q e. match_opt n x q e) x (elems_of l.p) (elems_of l.c) (elems_of q) (elems_of d)) s out r out'
 
-abbrev pub ByNameGives : Bool → Matcher → ℕ → List ℕ → ℕ → ℕ → List ℕ → ℕ → State → List ℕ → Answer → List ℕ → Type 0
-ByNameGives leaves x pe ps at ce cs beside s out r out' =
-    (n : ℕ) → enough 4 ps cs < n
-    → Gives (by_name leaves (λ q e. match_opt n x q e) x (elems pe ps) (elems ce cs) (elems (pe + at) (drop (at * 3) ps)) (elems (ce + beside) (drop
-    (beside * 3) cs))) s out r out'
+pub record ByNameGives (leaves : Bool) (x : Matcher) (l : Lists) (q d : Part) (s : State) (out : List ℕ) (r : Option State) (out' : List ℕ) : Type 0 where
+  pub gives : (n : ℕ) → enough 4 l.p l.c < n
+      → Gives (by_name leaves (λ q e. match_opt n x q e) x (elems_of l.p) (elems_of l.c) (elems_of q) (elems_of d)) s out r out'
 
 -- what is left of the pattern's siblings and the code's, by order, and then the comments of pairs left out, as long as no name was a placeholder
 abbrev pub owed : Bool → ℕ → Matcher → Elems → Elems → Elems → List Event
 owed before n x cs q d = cond before (again (λ q e. match_opt n x q e) x cs q d) []
 
-abbrev pub MeasuredGives : Bool → Matcher → ℕ → List ℕ → ℕ → ℕ → List ℕ → ℕ → State → List ℕ → Answer → List ℕ → Type 0
-MeasuredGives before x pe ps at ce cs i s out r out' =
-    (n m : ℕ) → enough 4 (drop (at * 3) ps) (drop (i * 3) cs) < n → enough 4 ps cs < m
-    → Gives (and_then (match_sequences n x (elems (pe + at) (drop (at * 3) ps)) (elems (ce + i) (drop (i * 3) cs)))
-    (matched (owed before m x (elems ce cs) (elems (pe + at) (drop (at * 3) ps)) (elems (ce + i) (drop (i * 3) cs))))) s out r out'
+pub record MeasuredGives (before : Bool) (x : Matcher) (l : Lists) (p c : Part) (s : State) (out : List ℕ) (r : Option State) (out' : List ℕ) : Type 0 where
+  pub gives : (n m : ℕ) → enough 4 p c < n → enough 4 l.p l.c < m
+      → Gives (and_then (match_sequences n x (elems_of p) (elems_of c)) (matched (owed before m x (elems_of l.c) (elems_of p) (elems_of c)))) s out r out'
 
--- for one of the pattern's siblings and one of the code's, where they are given
-abbrev pub NotedGives : Bool → Matcher → ℕ → List ℕ → ℕ → ℕ → List ℕ → ℕ → State → List ℕ → Answer → List ℕ → Type 0
-NotedGives named x pe ps at ce cs of s out r out' =
-    (n : ℕ) → enough 3 (drop (at * 3) ps) (drop (of * 3) cs) < n
-    → Gives (cond named (match_opt n x (elems (pe + at) (drop (at * 3) ps)) (elems (ce + of) (drop (of * 3) cs))) (matched [])) s out r out'
+-- for one of the pattern's siblings and one of the code's, where that is given
+abbrev pub NotedGives : Matcher → Part → Option Part → State → List ℕ → Option State → List ℕ → Type 0
+NotedGives x q None s out r out' = Gives (matched []) s out r out'
+NotedGives x q (Some e) s out r out' = OptGives x q e s out r out'
 
 -- what a turn over siblings passed, and that it acted as events say
-pub record Went (x : Matcher) (pe : ℕ) (p : List ℕ) (ce : ℕ) (c : List ℕ) (s : State) (out : List ℕ) (r : Turn) (out' : List ℕ) : Type 0 where
-  pub code : elems (ce + r.c) (drop (r.c * 3) c) ≡ rest (elems ce c)
-  pub tokens : is_a_token (elems ce c) ≡ true → next (elems (pe + r.p) (drop (r.p * 3) p)) ≡ next (elems pe p)
-  pub nodes : is_a_token (elems ce c) ≡ false → (is_a_node (skip_trivia (elems pe p)) ≡ true) × (elems (pe + r.p) (drop (r.p * 3) p) ≡ rest (skip_trivia
-      (elems pe p)))
+pub record Went (p c : Part) (s : State) (out : List ℕ) (t : Turn) (out' : List ℕ) : Type 0 where
+  pub code : elems_of t.c ≡ rest (elems_of c)
+  pub tokens : is_a_token (elems_of c) ≡ true → next (elems_of t.p) ≡ next (elems_of p)
+  pub nodes : is_a_token (elems_of c) ≡ false → (is_a_node (skip_trivia (elems_of p)) ≡ true) × (elems_of t.p ≡ rest (skip_trivia (elems_of p)))
   pub events : List Event
-  pub state : r.state ≡ recorded (length out) events s
+  pub state : t.state ≡ recorded (length out) events s
   pub buffer : out' ≡ laid_by events s out
 
 -- The comments of what is left of the siblings by name stand in the buffer from a place on, before the place behind all, as long as there
@@ -191,11 +189,8 @@ pub record Went (x : Matcher) (pe : ℕ) (p : List ℕ) (ce : ℕ) (c : List ℕ
 pub record Stood (a : Attempt) (from : ℕ) (s : State) (out : List ℕ) : Type 0 where
   pub events : List Event
   pub matches : a ≡ matched events
-  pub bytes : s.noted ≤ length out → (from + length (comments events) ≤ s.noted) × (take (length (comments events)) (drop from out) ≡ comments
-      events)
+  pub bytes : s.noted ≤ length out → (from + length (comments events) ≤ s.noted) × (take (length (comments events)) (drop from out) ≡ comments events)
 
-abbrev pub Stands : Bool → Matcher → ℕ → List ℕ → ℕ → ℕ → List ℕ → ℕ → State → List ℕ → Type 0
-Stands before x pe ps at ce cs from s out =
-    (n : ℕ) → enough 4 ps cs < n
-    → Stood (cond before (by_name false (λ q e. match_opt n x q e) x (elems pe ps) (elems ce cs) (elems (pe + at) (drop (at * 3) ps)) none) (matched
-    [])) from s out
+pub record Stands (before : Bool) (x : Matcher) (l : Lists) (p : Part) (from : ℕ) (s : State) (out : List ℕ) : Type 0 where
+  pub stands : (n : ℕ) → enough 4 l.p l.c < n
+      → Stood (cond before (by_name false (λ q e. match_opt n x q e) x (elems_of l.p) (elems_of l.c) (elems_of p) none) (matched [])) from s out

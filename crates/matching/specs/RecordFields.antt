@@ -13,9 +13,9 @@ use Rattle.record_fields.specs.Fields.{pattern_name, are_asked, is_free, field_f
 abbrev pub match_field : (Elems → Elems → Attempt) → Attempt → Matcher → Elems → Elems → Elems → Attempt → Attempt
 match_field match inOrder x ps cs q next =
     cond (has_placeholder_name x q) inOrder
-    (cond (some (pattern_name q)) (and_then (given (is_free x.code ps q)) (and_then (match q (field_for x.code x.text x.tree x.facts q cs)) next)) next)
+    (cond (some (pattern_name q)) (and_then (given (is_free x ps q)) (and_then (match q (field_for x q cs)) next)) next)
 
 unfoldable pub match_fields : (Elems → Elems → Attempt) → Attempt → Matcher → Elems → Elems → Elems → Attempt
-match_fields match inOrder x ps cs none = given (are_asked x.code x.facts x.tree x.text ps cs)
+match_fields match inOrder x ps cs none = given (are_asked x ps cs)
 match_fields match inOrder x ps cs (token i k s e r) = match_field match inOrder x ps cs (token i k s e r) (match_fields match inOrder x ps cs r)
 match_fields match inOrder x ps cs (node i k s e ds r) = match_field match inOrder x ps cs (node i k s e ds r) (match_fields match inOrder x ps cs r)

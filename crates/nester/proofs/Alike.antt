@@ -8,9 +8,10 @@ use mathlib.Core.Bool.{Bool, true, false, cond}
 use native.Mathlib.Omega.{arith}
 use lib.Dec.{eqb, leb, ltb}
 use borrow.Author.Tests.{eqb-true, eqb-false, eq-eqb, ne_eqb, leb-true, leb-false, le-leb, ltb-true, lt-ltb}
+use Rattle.std.specs.Prelude.{Option, None, Some}
 use Rattle.syntax.specs.Trees.{Elems, size}
 use Rattle.nester.specs.Matches.{Match}
-use Rattle.nester.specs.Nest.{Nest, none, kept, empty, change, sent, Slot, nowhere, slot, above, holding, come, start_at, end_at, Unrelated}
+use Rattle.nester.specs.Nest.{Nest, none, kept, empty, change, sent, above, holding, come, start_at, end_at, Unrelated}
 use Rattle.nester.specs.Places.{Item, before, insert, items}
 use Rattle.nester.proofs.Lines.{Laws}
 use Rattle.nester.proofs.Kept.{only_one}
@@ -21,7 +22,7 @@ module _ (t : Elems) where
   unfolding come
   come_by m x i r e = rw e
 
-  pub come-at : (m x : Match) (i : ℕ → Nest) (r : Nest) (s : Slot) → above t x m ≡ true → holding t x m ≡ s → come t m (kept x i r) ≡ sent s x i r (λ k. come t m (i k))
+  pub come-at : (m x : Match) (i : ℕ → Nest) (r : Nest) (s : Option ℕ) → above t x m ≡ true → holding t x m ≡ s → come t m (kept x i r) ≡ sent s x i r (λ k. come t m (i k))
   unfolding come
   come-at m x i r s e h = rw (e, h)
 
@@ -55,18 +56,18 @@ module _ (t : Elems) where
     come_alike same = same
     come_alike (keep {x = x} {i = i} {j = j} {r = r} {s = s} f a) = go (above t x m) (holding t x m) refl refl (λ k. come_alike (f k)) (come_alike a)
       where
-        go : (b : Bool) (h : Slot) → above t x m ≡ b → holding t x m ≡ h → ((k : ℕ) → Alike (come t m (i k)) (come t m (j k))) → Alike (come t m r) (come t m s) → Alike (come t m (kept x i r)) (come t m (kept x j s))
-        go true nowhere e p inner rest = rw (come-at m x i r nowhere e p, come-at m x j s nowhere e p) (keep f a)
-        go true (slot k) e p inner rest = rw (come-at m x i r (slot k) e p, come-at m x j s (slot k) e p) (keep (change_alike k (inner k) f) a)
+        go : (b : Bool) (h : Option ℕ) → above t x m ≡ b → holding t x m ≡ h → ((k : ℕ) → Alike (come t m (i k)) (come t m (j k))) → Alike (come t m r) (come t m s) → Alike (come t m (kept x i r)) (come t m (kept x j s))
+        go true None e p inner rest = rw (come-at m x i r None e p, come-at m x j s None e p) (keep f a)
+        go true (Some k) e p inner rest = rw (come-at m x i r (Some k) e p, come-at m x j s (Some k) e p) (keep (change_alike k (inner k) f) a)
         go false h e p inner rest = rw (come_by m x i r e, come_by m x j s e) (keep f rest)
     come_alike (swap {x = x} {y = y} {i = i} {j = j} {r = r} u) = go (above t x m) (above t y m) (holding t x m) (holding t y m) refl refl refl refl
       where
-        go : (b d : Bool) (h l : Slot) → above t x m ≡ b → above t y m ≡ d → holding t x m ≡ h → holding t y m ≡ l → Alike (come t m (kept x i (kept y j r))) (come t m (kept y j (kept x i r)))
+        go : (b d : Bool) (h l : Option ℕ) → above t x m ≡ b → above t y m ≡ d → holding t x m ≡ h → holding t y m ≡ l → Alike (come t m (kept x i (kept y j r))) (come t m (kept y j (kept x i r)))
         go true true h l e f p q = absurd (only_one t laws x y m km e f u.unrelated)
-        go true false nowhere l e f p q = rw (come-at m x i (kept y j r) nowhere e p, come_by m y j (kept x i r) f, come-at m x i r nowhere e p) (swap u)
-        go true false (slot k) l e f p q = rw (come-at m x i (kept y j r) (slot k) e p, come_by m y j (kept x i r) f, come-at m x i r (slot k) e p) (swap u)
-        go false true h nowhere e f p q = rw (come_by m x i (kept y j r) e, come-at m y j r nowhere f q, come-at m y j (kept x i r) nowhere f q) (swap u)
-        go false true h (slot k) e f p q = rw (come_by m x i (kept y j r) e, come-at m y j r (slot k) f q, come-at m y j (kept x i r) (slot k) f q) (swap u)
+        go true false None l e f p q = rw (come-at m x i (kept y j r) None e p, come_by m y j (kept x i r) f, come-at m x i r None e p) (swap u)
+        go true false (Some k) l e f p q = rw (come-at m x i (kept y j r) (Some k) e p, come_by m y j (kept x i r) f, come-at m x i r (Some k) e p) (swap u)
+        go false true h None e f p q = rw (come_by m x i (kept y j r) e, come-at m y j r None f q, come-at m y j (kept x i r) None f q) (swap u)
+        go false true h (Some k) e f p q = rw (come_by m x i (kept y j r) e, come-at m y j r (Some k) f q, come-at m y j (kept x i r) (Some k) f q) (swap u)
         go false false h l e f p q = rw (come_by m x i (kept y j r) e, come_by m y j r f, come_by m y j (kept x i r) f, come_by m x i r e) (swap u)
     come_alike (both a b) = both (come_alike a) (come_alike b)
 
@@ -92,19 +93,19 @@ module _ (t : Elems) where
         (swap (record { first = u.second; second = u.first; unrelated = record { down = u.unrelated.up; up = u.unrelated.down } }))
     tie (kept z i r) = go (above t z x) (above t z y) (holding t z x) (holding t z y) refl refl refl refl (λ k. tie (i k)) (tie r)
       where
-        go : (a b : Bool) (p q : Slot) → above t z x ≡ a → above t z y ≡ b → holding t z x ≡ p → holding t z y ≡ q
+        go : (a b : Bool) (p q : Option ℕ) → above t z x ≡ a → above t z y ≡ b → holding t z x ≡ p → holding t z y ≡ q
             → ((k : ℕ) → Alike (come t x (come t y (i k))) (come t y (come t x (i k)))) → Alike (come t x (come t y r)) (come t y (come t x r))
             → Alike (come t x (come t y (kept z i r))) (come t y (come t x (kept z i r)))
         go false false p q e f g h inner rest = rw (come_by y z i r f, come_by x z i (come t y r) e, come_by x z i r e, come_by y z i (come t x r) f) (keep (λ k. same) rest)
-        go true false nowhere q e f g h inner rest = rw (come_by y z i r f, come-at x z i (come t y r) nowhere e g, come-at x z i r nowhere e g, come_by y z i r f) same
-        go true false (slot k) q e f g h inner rest = rw (come_by y z i r f, come-at x z i (come t y r) (slot k) e g, come-at x z i r (slot k) e g, come_by y z (change k (come t x (i k)) i) r f) same
-        go false true p nowhere e f g h inner rest = rw (come-at y z i r nowhere f h, come_by x z i r e, come-at y z i (come t x r) nowhere f h) same
-        go false true p (slot k) e f g h inner rest = rw (come-at y z i r (slot k) f h, come_by x z (change k (come t y (i k)) i) r e, come_by x z i r e, come-at y z i (come t x r) (slot k) f h) same
-        go true true nowhere nowhere e f g h inner rest = rw (come-at y z i r nowhere f h, come-at x z i r nowhere e g, come-at y z i r nowhere f h) same
-        go true true nowhere (slot k) e f g h inner rest = rw (come-at y z i r (slot k) f h, come-at x z (change k (come t y (i k)) i) r nowhere e g, come-at x z i r nowhere e g, come-at y z i r (slot k) f h) same
-        go true true (slot k) nowhere e f g h inner rest = rw (come-at y z i r nowhere f h, come-at x z i r (slot k) e g, come-at y z (change k (come t x (i k)) i) r nowhere f h) same
-        go true true (slot k) (slot l) e f g h inner rest =
-            rw (come-at y z i r (slot l) f h, come-at x z (change l (come t y (i l)) i) r (slot k) e g, come-at x z i r (slot k) e g, come-at y z (change k (come t x (i k)) i) r (slot l) f h)
+        go true false None q e f g h inner rest = rw (come_by y z i r f, come-at x z i (come t y r) None e g, come-at x z i r None e g, come_by y z i r f) same
+        go true false (Some k) q e f g h inner rest = rw (come_by y z i r f, come-at x z i (come t y r) (Some k) e g, come-at x z i r (Some k) e g, come_by y z (change k (come t x (i k)) i) r f) same
+        go false true p None e f g h inner rest = rw (come-at y z i r None f h, come_by x z i r e, come-at y z i (come t x r) None f h) same
+        go false true p (Some k) e f g h inner rest = rw (come-at y z i r (Some k) f h, come_by x z (change k (come t y (i k)) i) r e, come_by x z i r e, come-at y z i (come t x r) (Some k) f h) same
+        go true true None None e f g h inner rest = rw (come-at y z i r None f h, come-at x z i r None e g, come-at y z i r None f h) same
+        go true true None (Some k) e f g h inner rest = rw (come-at y z i r (Some k) f h, come-at x z (change k (come t y (i k)) i) r None e g, come-at x z i r None e g, come-at y z i r (Some k) f h) same
+        go true true (Some k) None e f g h inner rest = rw (come-at y z i r None f h, come-at x z i r (Some k) e g, come-at y z (change k (come t x (i k)) i) r None f h) same
+        go true true (Some k) (Some l) e f g h inner rest =
+            rw (come-at y z i r (Some l) f h, come-at x z (change l (come t y (i l)) i) r (Some k) e g, come-at x z i r (Some k) e g, come-at y z (change k (come t x (i k)) i) r (Some l) f h)
             (keep (slots i k l inner) same)
 
 -- IN THE ORDER OF THE FILE

@@ -7,18 +7,19 @@ use mathlib.Core.Bool.{true, cond, ◌&&◌}
 use lib.Dec.{eqb}
 use Rattle.syntax.specs.Trees.{Elems, none, token, node, size, depth}
 use Rattle.syntax.specs.Accessors.{ancestors, element_at, or_else}
+use Rattle.captures.specs.declared.SelfKind.TheVariants.{Owned}
 use Rattle.captures.specs.Attempts.{Event, Bound, Attempt, failed, matched, comments}
 use Rattle.captures.specs.Effects.{recorded}
 use Rattle.candidates.specs.Candidates.{each}
 use Rattle.nester.specs.Matches.{Match, matches, by_element}
 use Rattle.nester.specs.Nest as Nest
-use Rattle.nester.specs.Nest.{holder, among, come, nest}
-use Rattle.nester.specs.Fates.{Place, outer, within, Row, walk, rows, shown}
+use Rattle.nester.specs.Nest.{come, nest}
+use Rattle.nester.specs.Fates.{Place, outer, within, Placed, walk, rows, shown}
 use Rattle.nester.specs.Places.{Item, before, insert, items}
 
 -- a binding of so many bytes in a slot, and none
 abbrev captures : ℕ → ℕ → ℕ → List Event → Attempt
-captures k s e es = matched (Bound k (record { bound = true; start = s; end = e; stars = 0; self_kind = 0 }) ∷ es)
+captures k s e es = matched (Bound k (record { start = s; end = e; stars = 0; self_kind = Owned }) ∷ es)
 
 abbrev fits : Attempt
 fits = matched []
@@ -32,7 +33,7 @@ record Kept : Type 0 where
 abbrev at : ℕ → ℕ → Place → Kept
 at n r p = record { node = n; rule = r; place = p }
 
-kept : List Row → List Kept
+kept : List Placed → List Kept
 kept [] = []
 kept (r ∷ l) = at r.match.node r.match.rule r.place ∷ kept l
 
@@ -78,7 +79,7 @@ foo_foo n r = cond (eqb r 0) (cond (eqb n 0) (captures 0 8 20 []) (cond (eqb n 2
 
 -- rule 0 has its placeholder 0 unbound, and 1 and 2 bound to the same bytes
 abbrev two_ranges : ℕ → ℕ → Attempt
-two_ranges n r = cond (eqb r 0) (captures 2 0 1 (Bound 1 (record { bound = true; start = 0; end = 1; stars = 0; self_kind = 0 }) ∷ [])) fits
+two_ranges n r = cond (eqb r 0) (captures 2 0 1 (Bound 1 (record { start = 0; end = 1; stars = 0; self_kind = Owned }) ∷ [])) fits
 
 -- what is rendered of a match is its rule, then of each match in its first range the node and what is rendered
 texts : List (Item (List ℕ)) → List ℕ
@@ -105,5 +106,5 @@ examples :
     × (by_element_lem one_node two_ranges ≡ at 0 0 outer ∷ at 0 1 (within 0 0 1) ∷ [])
     -- and as the collections themselves
     × (items foos render (nest foos (matches foos 2 foo_foo (λ n r. true)) Nest.none) ≡ record { node = 0; what = 0 ∷ 4 ∷ 0 ∷ [] } ∷ [])
-unfolding by_depth by_element_lem kept texts size depth ancestors element_at or_else comments recorded each matches by_element holder among come nest walk rows shown before insert items
+unfolding by_depth by_element_lem kept texts size depth ancestors element_at or_else comments recorded each matches by_element come nest walk rows shown before insert items
 examples = (refl, refl, refl, refl, refl, refl, refl, refl, refl, refl, refl)

@@ -1,6 +1,6 @@
 -- A match's fate depends only on the matches on its line of ancestors, and so is the same in both orders of coming.
 -- Assumes nothing.
-use Prim.Native.Nat.{ℕ, ◌+◌, ◌<◌}
+use Prim.Native.Nat.{ℕ, ◌<◌}
 use mathlib.Core.Path.{◌≡◌, refl, sym, ap, subst, ◌∙◌}
 use mathlib.Core.Logic.{◌⊎◌, inl, inr, ⊎_elim}
 use mathlib.Core.List.Memᴰ
@@ -8,14 +8,16 @@ use mathlib.Core.List.{List, [], ◌∷◌, ◌++◌, Memᴰ}
 use mathlib.Core.Bool.{Bool, true, false, cond, true≢false}
 use native.Mathlib.Omega.{arith}
 use borrow.Author.Tests.{eq-eqb, ne_eqb}
+use Rattle.std.specs.Option.{option_and_then}
+use Rattle.std.specs.Prelude.{Option, None, Some}
 use Rattle.words.proofs.TestLaws.{low_or, same_or}
 use Rattle.syntax.specs.Trees.{Elems, size}
 use Rattle.syntax.specs.Accessors.{depth_of}
 use Rattle.captures.specs.Attempts.{Attempt}
 use Rattle.candidates.specs.Candidates.{Pairs}
 use Rattle.nester.specs.Matches.{Match, matches, by_element}
-use Rattle.nester.specs.Nest.{Nest, none, kept, change, Slot, nowhere, slot, above, holding, come, nest}
-use Rattle.nester.specs.Fates.{Place, outer, inside, onward, fate_at, fate, walk, rows, shown}
+use Rattle.nester.specs.Nest.{Nest, none, kept, change, above, holding, come, nest}
+use Rattle.nester.specs.Fates.{Place, outer, inside, fate_at, fate, walk, rows, shown}
 use Rattle.nester.proofs.Lists.{All, Pairwise, all_mem, all_of, pairwise_map, front-pairs, pairs-front, pairs_back}
 use Rattle.nester.proofs.Lines.{Laws}
 use Rattle.nester.proofs.Order.{Is, ComesFirst, by_depth, by_rule, by_node, no_deeper, all_is, in_order, all_there, StandsFirst, lower_node, lower_rule, each_is, by_element_lem, each_there}
@@ -41,8 +43,8 @@ module _ (t : Elems) (m : Match) where
   fate-seen p (kept x i r) = go (above t x m) refl (λ k. fate-seen (inside x k) (i k)) (fate-seen p r)
     where
       go : (b : Bool) → above t x m ≡ b → ((k : ℕ) → fate_at t (inside x k) m (i k) ≡ fate_at t (inside x k) m (seen (i k))) → fate_at t p m r ≡ fate_at t p m (seen r)
-          → cond b (onward (holding t x m) (λ k. fate_at t (inside x k) m (i k))) (fate_at t p m r) ≡ fate_at t p m (cond b (kept x (λ k. seen (i k)) (seen r)) (seen r))
-      go true e inner rest = rw e (λ d. onward (holding t x m) (λ k. inner k d))
+          → cond b (option_and_then (λ k. fate_at t (inside x k) m (i k)) (holding t x m)) (fate_at t p m r) ≡ fate_at t p m (cond b (kept x (λ k. seen (i k)) (seen r)) (seen r))
+      go true e inner rest = rw e (λ d. option_and_then (λ k. inner k d) (holding t x m))
       go false e inner rest = rest
 
   seen-kept : (x : Match) (i : ℕ → Nest) (r : Nest) (b : Bool) → above t x m ≡ b → seen (kept x i r) ≡ cond b (kept x (λ k. seen (i k)) (seen r)) (seen r)
@@ -84,22 +86,22 @@ module _ (t : Elems) (m : Match) where
     come-past x i r h false d a e f =
         rw (come_by t y x i r a, seen-kept x i (come t y r) false e, seen-kept x i r false e) (rw f at h)
 
-    come_to : (x : Match) (i : ℕ → Nest) (r : Nest) → ((k : ℕ) → Stays (i k)) → (b d : Bool) (s : Slot) → above t x y ≡ true → holding t x y ≡ s → above t x m ≡ b → above t y m ≡ d
+    come_to : (x : Match) (i : ℕ → Nest) (r : Nest) → ((k : ℕ) → Stays (i k)) → (b d : Bool) (s : Option ℕ) → above t x y ≡ true → holding t x y ≡ s → above t x m ≡ b → above t y m ≡ d
         → seen (come t y (kept x i r)) ≡ cond d (come t y (seen (kept x i r))) (seen (kept x i r))
     come_to x i r h false true s a g e f = absurd (true≢false (sym (up x a f) ∙ e))
-    come_to x i r h false false nowhere a g e f = rw (come-at t y x i r nowhere a g)
-    come_to x i r h true true nowhere a g e f =
-        rw (come-at t y x i r nowhere a g, seen-kept x i r true e, come-at t y x (λ k. seen (i k)) (seen r) nowhere a g)
-    come_to x i r h true false nowhere a g e f = rw (come-at t y x i r nowhere a g)
-    come_to x i r h false false (slot k) a g e f =
-        rw (come-at t y x i r (slot k) a g, seen-kept x (change k (come t y (i k)) i) r false e, seen-kept x i r false e)
-    come_to x i r h true true (slot k) a g e f =
+    come_to x i r h false false None a g e f = rw (come-at t y x i r None a g)
+    come_to x i r h true true None a g e f =
+        rw (come-at t y x i r None a g, seen-kept x i r true e, come-at t y x (λ k. seen (i k)) (seen r) None a g)
+    come_to x i r h true false None a g e f = rw (come-at t y x i r None a g)
+    come_to x i r h false false (Some k) a g e f =
+        rw (come-at t y x i r (Some k) a g, seen-kept x (change k (come t y (i k)) i) r false e, seen-kept x i r false e)
+    come_to x i r h true true (Some k) a g e f =
         let inner = slots i k true (rw f at (h k)) in
-        rw (come-at t y x i r (slot k) a g, seen-kept x (change k (come t y (i k)) i) r true e, seen-kept x i r true e, come-at t y x (λ k. seen (i k)) (seen r) (slot k) a g)
+        rw (come-at t y x i r (Some k) a g, seen-kept x (change k (come t y (i k)) i) r true e, seen-kept x i r true e, come-at t y x (λ k. seen (i k)) (seen r) (Some k) a g)
         (λ d. kept x (λ j. inner j d) (seen r))
-    come_to x i r h true false (slot k) a g e f =
+    come_to x i r h true false (Some k) a g e f =
         let inner = slots i k false (rw f at (h k)) in
-        rw (come-at t y x i r (slot k) a g, seen-kept x (change k (come t y (i k)) i) r true e, seen-kept x i r true e) (λ d. kept x (λ j. inner j d) (seen r))
+        rw (come-at t y x i r (Some k) a g, seen-kept x (change k (come t y (i k)) i) r true e, seen-kept x i r true e) (λ d. kept x (λ j. inner j d) (seen r))
 
     seen-come : (c : Nest) → Stays c
     seen-come none = come-first (above t y m) refl

@@ -1,20 +1,20 @@
 -- What rendering needs of the nested collections: each match there lies in the captured range that the collection belongs to; and matches
 -- that come by element stand by element in each collection.
 -- Assumes nothing.
-use Prim.Native.Nat.{ℕ, suc, ◌+◌, ◌-◌, ◌<◌, ◌≤◌}
+use Prim.Native.Nat.{ℕ, ◌<◌, ◌≤◌}
 use mathlib.Core.Path.{◌≡◌, refl, ◌∙◌}
 use mathlib.Core.List.{List, [], ◌∷◌}
-use mathlib.Core.Bool.{Bool, true, false, cond, ◌&&◌}
-use native.Mathlib.Omega.{arith}
+use mathlib.Core.Bool.{Bool, true, false≢true}
 use lib.ListN.{get_or}
 use lib.Dec.{leb}
 use borrow.Author.Tests.{leb-true, le-leb}
+use Rattle.std.proofs.lemmas.List.Quantifiers.{position-Some}
+use Rattle.std.specs.Prelude.{Option, None, Some}
 use Rattle.words.proofs.TestLaws.{and_both}
 use Rattle.syntax.specs.Trees.{Elems, size}
 use Rattle.captures.specs.declared.Binding.{Binding}
-use Rattle.captures.specs.Effects.{unbound}
 use Rattle.nester.specs.Matches.{Match}
-use Rattle.nester.specs.Nest.{Nest, none, kept, slot, holds, holder, above, holding, start_at, end_at, nest, Apart, In, first, inside, later}
+use Rattle.nester.specs.Nest.{Nest, none, kept, holds, above, holding, start_at, end_at, nest, Apart, In, first, inside, later}
 use Rattle.nester.specs.Places.{Item, items, listed, laid}
 use Rattle.nester.proofs.Lists.{All, Pairwise, all_zip}
 use Rattle.nester.proofs.Lines.{Laws}
@@ -30,7 +30,7 @@ module _ (t : Elems) where
   -- m came from x to x's k-th collection
   pub record From (x : Match) (k : ℕ) (m : Match) : Type 0 where
     pub up : above t x m ≡ true
-    pub by : holding t x m ≡ slot k
+    pub by : holding t x m ≡ Some k
 
   -- In a collection, and in each one inside it, each match of a captured range's collection came there from its holder.
   abbrev pub Within : Nest → Type 0
@@ -64,35 +64,25 @@ module _ (t : Elems) where
       anyhow [] = Pairwise.nil
       anyhow (x ∷ l) = Pairwise.more (any x l) (anyhow l)
 
--- the k-th binding is bound and holds s to e
-pub record Holds (l : List Binding) (k s e : ℕ) : Type 0 where
-  pub bound : (get_or l k unbound).bound ≡ true
-  pub low : (get_or l k unbound).start ≤ s
-  pub high : e ≤ (get_or l k unbound).end
+-- the k-th binding is there and holds s to e
+pub record Holds (l : List (Option Binding)) (k s e : ℕ) : Type 0 where
+  pub captured : Binding
+  pub is : get_or l k None ≡ Some captured
+  pub low : captured.start ≤ s
+  pub high : e ≤ captured.end
 
-abbrev At : ℕ → ℕ → List Binding → ℕ → ℕ → Type 0
-At j k l s e = (i : ℕ) × (k ≡ j + i) × Holds l i s e
-
-holder-holds : (l : List Binding) (j k s e : ℕ) → holder j l s e ≡ slot k → At j k l s e
-unfolding holder
-holder-holds [] j k s e h = absurd (let z : ◌≡◌ {A = ℕ} 0 1 = cc in omega arith)
-holder-holds (b ∷ l) j k s e h = go (holds b s e) refl (λ q. holder-holds l (suc j) k s e q) h
-  where
-    go : (x : Bool) → holds b s e ≡ x → (holder (suc j) l s e ≡ slot k → At (suc j) k l s e) → cond x (slot j) (holder (suc j) l s e) ≡ slot k → At j k (b ∷ l) s e
-    go true p on z =
-        let w : j ≡ k = cc in
-        let u = and_both (b.bound && leb b.start s) (leb e b.end) p in
-        let v = and_both b.bound (leb b.start s) u.0 in
-        (0, omega arith, record { bound = v.0; low = leb-true _ _ v.1; high = leb-true _ _ u.1 })
-    go false p on z = let a = on z in let q = a.1 in let y = a.2 in (suc a.0, omega arith, record { bound = y.bound; low = y.low; high = y.high })
+holds_at : (l : List (Option Binding)) (k s e : ℕ) (b : Option Binding) → get_or l k None ≡ b → holds b s e ≡ true → Holds l k s e
+holds_at l k s e None i h = absurd (false≢true h)
+holds_at l k s e (Some b) i h =
+    let u = and_both (leb b.start s) (leb e b.end) h in record { captured = b; is = i; low = leb-true _ _ u.0; high = leb-true _ _ u.1 }
 
 -- A NESTED MATCH lies in its captured range
 pub in_range : (t : Elems) (x m : Match) (k : ℕ) → From t x k m → Holds x.bindings k (start_at t m.node) (end_at t m.node)
 in_range t x m k f =
-    let a = holder-holds x.bindings 0 k (start_at t m.node) (end_at t m.node) f.by in
-    let q = a.1 in
-    let z : a.0 ≡ k = omega arith in
-    rw z at a.2
+    let s = start_at t m.node in
+    let e = end_at t m.node in
+    let h = position-Some (λ (b : Option Binding). holds b s e) x.bindings k None f.by in
+    holds_at x.bindings k s e (get_or x.bindings k None) refl h.1
 
 -- BY ELEMENT
 module _ (t : Elems) where

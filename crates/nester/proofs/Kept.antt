@@ -1,7 +1,7 @@
 -- Demand 3, the collections: in each no node equals another or is its ancestor; and a match is dropped exactly when it meets a kept one that
 -- has no captured range holding it.
 -- Assumes nothing.
-use Prim.Native.Nat.{ℕ, ◌+◌, ◌<◌, ◌≤◌}
+use Prim.Native.Nat.{ℕ, ◌<◌, ◌≤◌}
 use mathlib.Core.Path.{◌≡◌, refl, sym, ap, subst, ◌∙◌}
 use mathlib.Core.List.{List, [], ◌∷◌, ◌++◌, Memᴰ}
 use mathlib.Core.Bool.{Bool, true, false, cond, true≢false}
@@ -9,13 +9,14 @@ use mathlib.Core.Logic.{◌⊎◌, inl, inr, ⊎_elim, ◌↔◌}
 use native.Mathlib.Omega.{arith}
 use lib.Dec.{eqb}
 use borrow.Author.Tests.{eqb-true, eq-eqb}
+use Rattle.std.specs.Prelude.{Option, None, Some}
 use Rattle.words.proofs.TestLaws.{same_or, low_or, never}
 use Rattle.syntax.specs.Trees.{Elems, size}
 use Rattle.syntax.specs.Accessors.{depth_of}
 use Rattle.captures.specs.Attempts.{Attempt}
 use Rattle.candidates.specs.Candidates.{Pairs}
 use Rattle.nester.specs.Matches.{Match, matches}
-use Rattle.nester.specs.Nest.{Nest, none, kept, empty, change, Slot, nowhere, slot, sent, over, above, holding, come, nest, Meets, here, past, down, Stop, Unrelated, Alone, Apart, In, first, inside, later}
+use Rattle.nester.specs.Nest.{Nest, none, kept, empty, change, sent, over, above, holding, come, nest, Meets, here, past, down, Stop, Unrelated, Alone, Apart, In, first, inside, later}
 use Rattle.nester.specs.Collections.{Collections}
 use Rattle.nester.proofs.Lists.{All, Pairwise, all_map, all_zip, all_mem, pairs-front, pairs_back}
 use Rattle.nester.proofs.Lines.{Laws}
@@ -26,8 +27,8 @@ module _ (t : Elems) where
   pub data Comes (m : Match) : Bool → Nest → Nest → Type 0 where
     ends : Comes m true none (kept m empty none)
     by : {x : Match} {i : ℕ → Nest} {r s : Nest} {b : Bool} → above t x m ≡ false → Comes m b r s → Comes m b (kept x i r) (kept x i s)
-    drop : {x : Match} {i : ℕ → Nest} {r : Nest} → above t x m ≡ true → holding t x m ≡ nowhere → Comes m false (kept x i r) (kept x i r)
-    goes : {x : Match} {i : ℕ → Nest} {r c : Nest} {b : Bool} {k : ℕ} → above t x m ≡ true → holding t x m ≡ slot k → Comes m b (i k) c → Comes m b (kept x i r) (kept x (change k c i) r)
+    drop : {x : Match} {i : ℕ → Nest} {r : Nest} → above t x m ≡ true → holding t x m ≡ None → Comes m false (kept x i r) (kept x i r)
+    goes : {x : Match} {i : ℕ → Nest} {r c : Nest} {b : Bool} {k : ℕ} → above t x m ≡ true → holding t x m ≡ Some k → Comes m b (i k) c → Comes m b (kept x i r) (kept x (change k c i) r)
 
   pub record Came (m : Match) (c d : Nest) : Type 0 where
     pub stays : Bool
@@ -38,10 +39,10 @@ module _ (t : Elems) where
   comes m none = record { stays = true; by = ends }
   comes m (kept x i r) = go (above t x m) refl (holding t x m) refl (λ k. comes m (i k)) (comes m r)
     where
-      go : (b : Bool) → above t x m ≡ b → (s : Slot) → holding t x m ≡ s → ((k : ℕ) → Came m (i k) (come t m (i k))) → Came m r (come t m r)
+      go : (b : Bool) → above t x m ≡ b → (s : Option ℕ) → holding t x m ≡ s → ((k : ℕ) → Came m (i k) (come t m (i k))) → Came m r (come t m r)
           → Came m (kept x i r) (cond b (sent s x i r (λ k. come t m (i k))) (kept x i (come t m r)))
-      go true e nowhere h f g = record { stays = false; by = drop e h }
-      go true e (slot k) h f g = record { stays = (f k).stays; by = goes e h (f k).by }
+      go true e None h f g = record { stays = false; by = drop e h }
+      go true e (Some k) h f g = record { stays = (f k).stays; by = goes e h (f k).by }
       go false e s h f g = record { stays = g.stays; by = by e g.by }
 
   -- the k-th collection is changed, the others stay
@@ -52,11 +53,11 @@ module _ (t : Elems) where
       go true z = rw (eqb-true j k z) p
       go false z = q j
 
-  abbrev Some : Nest → Type 0
-  Some none = ⊥
-  Some (kept x i r) = Unit {0}
+  abbrev NotEmpty : Nest → Type 0
+  NotEmpty none = ⊥
+  NotEmpty (kept x i r) = Unit {0}
 
-  pub some : {y : Match} {c : Nest} → In y c → Some c
+  pub some : {y : Match} {c : Nest} → In y c → NotEmpty c
   some (first p) = tt
   some (inside k p) = tt
   some (later p) = tt
@@ -99,10 +100,10 @@ module _ (t : Elems) where
   stops (drop {x = x} e h) z = record { at = x; met = here refl e; no = h }
   stops (goes e h q) z = let s = stops q z in record { at = s.at; met = down e h s.met; no = s.no }
 
-  ne_slot : {s : Slot} {k : ℕ} → s ≡ slot k → s ≡ nowhere → ⊥
+  ne_slot : {s : Option ℕ} {k : ℕ} → s ≡ Some k → s ≡ None → ⊥
   ne_slot p q = let z : ◌≡◌ {A = ℕ} 0 1 = cc in omega arith
 
-  stopped : {m x : Match} {b : Bool} {c d : Nest} → Comes m b c d → Meets t m x c → holding t x m ≡ nowhere → b ≡ false
+  stopped : {m x : Match} {b : Bool} {c d : Nest} → Comes m b c d → Meets t m x c → holding t x m ≡ None → b ≡ false
   stopped ends p n = elim p [ ]
   stopped (by e q) (here p e') n = absurd (true≢false (sym e' ∙ e))
   stopped (by e q) (past e' p) n = stopped q p n
@@ -260,8 +261,3 @@ only_one t laws x y m h p q u =
     low_or x.node y.node
     (λ l. true≢false (sym (laws.line x.node y.node m.node h (omega arith) p q) ∙ u.down))
     (λ l. true≢false (sym (laws.line y.node x.node m.node h l q p) ∙ u.up))
-
--- Where there is a match, one is kept: the first.
-pub some-kept : (t : Elems) (m : Match) (l : List Match) → In m (nest t (m ∷ l) none)
-unfolding nest come
-some-kept t m l = in_after t l (first refl)

@@ -8,8 +8,7 @@ pub mod Inner
 pub mod Shown
 pub mod Alike
 pub mod Orders
-pub mod RowLaws
+pub mod Settling
 pub mod RowSteps
-mod LastLaws
 pub mod FateLaws
 mod Examples

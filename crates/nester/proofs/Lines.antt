@@ -1,6 +1,6 @@
 -- What nesting uses of a well-formed tree: which elements are on the line from the root to another, and where unrelated ones stand.
 -- Assumes nothing.
-use Prim.Native.Nat.{ℕ, ◌+◌, ◌-◌, ◌≤◌, ◌<◌}
+use Prim.Native.Nat.{ℕ, ◌+◌, ◌≤◌, ◌<◌}
 use mathlib.Core.Path.{◌≡◌, refl, sym, ap, subst, ◌∙◌}
 use mathlib.Core.Logic.{inr}
 use mathlib.Core.Bool.{Bool, true, false, cond, ◌&&◌, ◌||◌, false≢true}
@@ -13,7 +13,8 @@ use Rattle.words.proofs.TestLaws.{low_or, same_or, never}
 use Rattle.syntax.specs.Trees.{Elems, none, token, node, size, Numbered, deeper, depth, tree, tiles, formed}
 use Rattle.syntax.specs.Accessors.{range_of, some, element_at, or_else, by_itself, below, ancestors, depth_of}
 use Rattle.syntax.proofs.Words.{token_good, node_good, tiles_order}
-use Rattle.syntax.specs.Checks.{WellFormed}
+use Rattle.syntax.specs.Checks.{is_well_formed, WellFormed}
+use Rattle.syntax.proofs.FormedLaws.{formed_is}
 use Rattle.syntax.proofs.Places.{Away, away}
 use Rattle.syntax.proofs.Exactly.{tree_built}
 use Rattle.nester.specs.Nest.{among, over, start_at, end_at}
@@ -49,11 +50,9 @@ below-some i [] other h = absurd (omega arith)
 below-some i (x ∷ l) other h = refl
 
 among_first : (b : ℕ) (l : List ℕ) → among b (b ∷ l) ≡ true
-unfolding among
 among_first b l = rw (eq-eqb b b refl)
 
 among-other : (i b : ℕ) (l : List ℕ) → (b ≡ i → ⊥) → among i (b ∷ l) ≡ among i l
-unfolding among
 among-other i b l h = rw (ne_eqb b i h)
 
 -- an element of a sequence numbered from b is there, on its own line
@@ -218,7 +217,6 @@ fits (node j k s e cs r) b f t n w i g h l =
 
 -- an element's line has no number before the sequence's, and none behind the element's
 among_one : (i b : ℕ) → among i (b ∷ []) ≡ true → b ≡ i
-unfolding among
 among_one i b h = go (eqb b i) refl h
   where
     go : (x : Bool) → eqb b i ≡ x → (x || false) ≡ true → b ≡ i
@@ -226,7 +224,6 @@ among_one i b h = go (eqb b i) refl h
     go false e q = absurd (false≢true q)
 
 among_next : {P : Type 0} (i b : ℕ) (l : List ℕ) → among i (b ∷ l) ≡ true → (b ≡ i → P) → (among i l ≡ true → P) → P
-unfolding among
 among_next {P} i b l h first next = go (eqb b i) refl h
   where
     go : (x : Bool) → eqb b i ≡ x → (x || among i l) ≡ true → P
@@ -394,3 +391,8 @@ module _ (t : Elems) (n : ℕ) (w : Numbered 0 t) (z : tiles 0 n t ≡ true) (g 
 -- an accepted tree keeps them
 pub tree_laws : (l : List ℕ) (w : WellFormed l) → Laws (tree l) w.bytes
 tree_laws l w = let b = tree_built w.bytes l w.small w.few w.is in laws (tree l) w.bytes b.numbered b.inside b.good
+
+-- so an element is on another's line if that one is among the first so many from it, which are it with all below it
+pub over_span : (l : List ℕ) → is_well_formed l ≡ true → (i j n : ℕ) (c : Elems) → i < size (tree l) → j < size (tree l) → by_itself c ≡ by_itself (element_at i (tree l)) → n ≡ size (by_itself c)
+    → (leb i j && ltb j (i + n)) ≡ over (tree l) i j
+over_span l f i j n c h k e s = rw (s ∙ ap size e) (sym ((tree_laws l (formed_is l f)).spans i j h k))

@@ -1,12 +1,12 @@
 -- THE ORDER OF COMING: by depth, rule and node, or by element and rule, the collections in the order of the file are the same. On one line
 -- of ancestors both orders agree, and matches on unrelated nodes may come in either order.
 -- Assumes nothing.
-use Prim.Native.Nat.{ℕ, ◌+◌, ◌<◌, ◌≤◌}
+use Prim.Native.Nat.{ℕ, ◌<◌, ◌≤◌}
 use mathlib.Core.Path.{◌≡◌, refl, sym, ap, subst, ◌∙◌}
-use mathlib.Core.Logic.{◌⊎◌, ⊎_elim}
+use mathlib.Core.Logic.{⊎_elim}
 use mathlib.Core.List.Memᴰ
 use mathlib.Core.List.{List, [], ◌∷◌, ◌++◌, Memᴰ}
-use mathlib.Core.Bool.{true, false, true≢false}
+use mathlib.Core.Bool.{false, true≢false}
 use native.Mathlib.Omega.{arith}
 use Rattle.words.proofs.TestLaws.{same_or, never}
 use Rattle.syntax.specs.Trees.{Elems, size}
@@ -15,8 +15,9 @@ use Rattle.captures.specs.Attempts.{Attempt}
 use Rattle.candidates.specs.Candidates.{Pairs}
 use Rattle.nester.specs.Matches.{Match, matches, by_element}
 use Rattle.nester.specs.Nest.{Nest, none, over, above, come, nest, In, Apart}
-use Rattle.nester.specs.Fates.{Row, outer, rows, shown}
+use Rattle.nester.specs.Fates.{Placed, outer, rows, shown}
 use Rattle.nester.specs.Rows.{rows_in, matches_in, Nested}
+use Rattle.nester.specs.declared.Row.{Row}
 use Rattle.nester.specs.Places.{Item, items, listed, laid}
 use Rattle.nester.proofs.Lists.{All, Pairwise, all_map, all_mem, all_of, all_append, pairwise_map, pairs-front, pairs_back}
 use Rattle.nester.proofs.Lines.{Laws}
@@ -179,13 +180,13 @@ module _ (t : Elems) {n : ℕ} (laws : Laws t n) (rules : ℕ) (attempt : ℕ �
       ∙ ap (λ (c : Nest). listed t render c) (sym rows_show)
 
   -- and with those inside them, as they stand
-  pub rows-laid : {T : Type 0} (render : Match → (ℕ → List (Item T)) → T) → items t render (nest t found none) ≡ laid t render (shown (rows t element []) outer)
-  rows-laid render =
+  pub matches-laid : {T : Type 0} (render : Match → (ℕ → List (Item T)) → T) → items t render (nest t found none) ≡ laid t render (shown (rows t element []) outer)
+  matches-laid render =
       items_alike t laws render found_alike ∙ items-laid t laws render (nest t element none) element_apart element_known element_rising
       ∙ ap (λ (c : Nest). laid t render c) (sym rows_show)
 
-  -- THE WORDS: rows that are nested, of all matches by element, show what the job renders
-  pub words-laid : {T : Type 0} (render : Match → (ℕ → List (Item T)) → T) (comments : ℕ → ℕ → List ℕ) (count : ℕ) (before after : List ℕ) → Nested t count before after
-      → matches_in comments before count ≡ element → items t render (nest t found none) ≡ laid t render (shown (rows_in comments after count) outer)
-  words-laid render comments count before after w e =
-      rows-laid render ∙ ap (λ (l : List Row). laid t render (shown l outer)) (sym (w.kept comments ∙ ap (λ (ms : List Match). rows t ms []) e))
+  -- THE ROWS: rows that are nested, of all matches by element, show what the job renders
+  pub rows-laid : {T : Type 0} (render : Match → (ℕ → List (Item T)) → T) (comments : ℕ → ℕ → List ℕ) (before after : List Row) → Nested t before after
+      → matches_in comments before ≡ element → items t render (nest t found none) ≡ laid t render (shown (rows_in comments after after) outer)
+  rows-laid render comments before after w e =
+      matches-laid render ∙ ap (λ (l : List Placed). laid t render (shown l outer)) (sym (w.kept comments ∙ ap (λ (ms : List Match). rows t ms []) e))

@@ -1,6 +1,6 @@
 -- The matches of a job and the order in which they come, document 01, "Modules", 6.
 -- Assumes nothing.
-use Rattle.std.specs.Prelude.{ℕ, ◌+◌, Bool, cond, ◌&&◌, List, [], ◌∷◌, eqb}
+use Rattle.std.specs.Prelude.{ℕ, ◌+◌, Bool, cond, ◌&&◌, List, [], ◌∷◌, eqb, Option}
 use Rattle.syntax.specs.Trees.{Elems, size, depth}
 use Rattle.syntax.specs.Accessors.{depth_of}
 use Rattle.captures.specs.declared.Binding.{Binding}
@@ -12,7 +12,7 @@ use Rattle.candidates.specs.Candidates.{Pairs, each}
 pub record Match : Type 0 where
   pub node : ℕ
   pub rule : ℕ
-  pub bindings : List Binding
+  pub bindings : List (Option Binding)
   pub comments : List ℕ
 
 -- "A candidate that does not match is no match"

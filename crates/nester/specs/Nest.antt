@@ -1,6 +1,7 @@
 -- nester.rs: `nest_and_remove_collisions`, in the words of document 01, "Modules", 6.
 -- Assumes nothing.
-use Rattle.std.specs.Prelude.{◌≡◌, ℕ, suc, Bool, true, false, cond, ◌&&◌, ◌||◌, List, [], ◌∷◌, eqb, leb}
+use Rattle.std.specs.Prelude.{◌≡◌, ℕ, Bool, true, false, cond, ◌&&◌, List, [], ◌∷◌, eqb, leb, Option, None, Some}
+use Rattle.std.specs.List.{position, list_any}
 use Rattle.syntax.specs.Trees.{Elems}
 use Rattle.syntax.specs.Accessors.{range_of, element_at, ancestors}
 use Rattle.captures.specs.declared.Binding.{Binding}
@@ -20,29 +21,23 @@ empty k = none
 abbrev pub change : ℕ → Nest → (ℕ → Nest) → ℕ → Nest
 change k c inner j = cond (eqb j k) c (inner j)
 
--- the number of a captured range, or none
-pub data Slot : Type 0 where
-  nowhere : Slot
-  slot : ℕ → Slot
-
 -- a captured range holds a range: "no later start, no earlier end"
-abbrev pub holds : Binding → ℕ → ℕ → Bool
-holds b s e = b.bound && leb b.start s && leb e b.end
+abbrev pub holds : Option Binding → ℕ → ℕ → Bool
+holds None s e = false
+holds (Some b) s e = leb b.start s && leb e b.end
 
--- the first that does, counted from k; "the earlier placeholder in pattern order takes it"
-unfoldable pub holder : ℕ → List Binding → ℕ → ℕ → Slot
-holder k [] s e = nowhere
-holder k (b ∷ l) s e = cond (holds b s e) (slot k) (holder (suc k) l s e)
+-- the number of the first that does; "the earlier placeholder in pattern order takes it"
+abbrev pub holder : List (Option Binding) → ℕ → ℕ → Option ℕ
+holder bindings s e = position (λ b. holds b s e) bindings
 
 -- a number is in a list
-unfoldable pub among : ℕ → List ℕ → Bool
-among n [] = false
-among n (i ∷ l) = eqb i n || among n l
+abbrev pub among : ℕ → List ℕ → Bool
+among n l = list_any (λ i. eqb i n) l
 
 -- x goes on to one of its collections, which `on` changes, or leaves all as it is
-abbrev pub sent : Slot → Match → (ℕ → Nest) → Nest → (ℕ → Nest) → Nest
-sent nowhere x inner rest on = kept x inner rest
-sent (slot k) x inner rest on = kept x (change k (on k) inner) rest
+abbrev pub sent : Option ℕ → Match → (ℕ → Nest) → Nest → (ℕ → Nest) → Nest
+sent None x inner rest on = kept x inner rest
+sent (Some k) x inner rest on = kept x (change k (on k) inner) rest
 
 module _ (t : Elems) where
   -- element i is j or an ancestor of j
@@ -61,8 +56,8 @@ module _ (t : Elems) where
   above x m = over x.node m.node
 
   -- x's "first captured range holding its range"
-  abbrev pub holding : Match → Match → Slot
-  holding x m = holder 0 x.bindings (start_at m.node) (end_at m.node)
+  abbrev pub holding : Match → Match → Option ℕ
+  holding x m = holder x.bindings (start_at m.node) (end_at m.node)
 
   -- m comes to a collection. "One that finds none there on its node or an ancestor is kept there. Else it meets that one and goes on to the
   -- collection of that one's first captured range holding its range, or is dropped if there is none."
@@ -80,13 +75,13 @@ module _ (t : Elems) where
     here : {x : Match} {inner : ℕ → Nest} {rest : Nest} → y ≡ x → above x m ≡ true → Meets m y (kept x inner rest)
     past : {x : Match} {inner : ℕ → Nest} {rest : Nest} → above x m ≡ false → Meets m y rest → Meets m y (kept x inner rest)
     down : {x : Match} {inner : ℕ → Nest} {rest : Nest} {k : ℕ}
-        → above x m ≡ true → holding x m ≡ slot k → Meets m y (inner k) → Meets m y (kept x inner rest)
+        → above x m ≡ true → holding x m ≡ Some k → Meets m y (inner k) → Meets m y (kept x inner rest)
 
   -- m meets one that has no captured range holding it
   pub record Stop (m : Match) (c : Nest) : Type 0 where
     pub at : Match
     pub met : Meets m at c
-    pub no : holding at m ≡ nowhere
+    pub no : holding at m ≡ None
 
   -- of two nodes neither is the other or an ancestor of it
   pub record Unrelated (i j : ℕ) : Type 0 where

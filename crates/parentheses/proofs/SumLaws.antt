@@ -1,66 +1,53 @@
--- Sums over the first words of a list: the bytes of parts, and those of their parentheses.
+-- Sums over the first parts of a list: their bytes, and those of their parentheses.
 -- Assumes nothing.
-use mathlib.Core.Path.{◌≡◌, refl, ap, ◌∙◌}
-use mathlib.Core.Bool.{Bool, true, false}
-use mathlib.Core.List.{List, [], ◌∷◌}
-use Prim.Native.Nat.{ℕ, zero, suc, ◌+◌, ◌-◌, ◌*◌, ◌<◌, ◌≤◌}
-use native.Mathlib.Omega.{arith}
-use lib.ListN.{length, get_or, take}
-use Rattle.parentheses.specs.Parentheses.{part_at, parts_of, total, is_marked, marks_of, extra, added}
+use Rattle.std.proofs.Common.{◌≡◌, refl, sym, ap, ◌∙◌, ℕ, zero, suc, ◌+◌, ◌*◌, ◌<◌, ◌≤◌, arith, Bool, true, false, List, [], ◌∷◌, ◌++◌, length, get_or, take, sum_by}
+use lib.Seq.{take-suc}
+use Rattle.std.proofs.lemmas.List.Sums.{sum_by-cons}
+use Rattle.parentheses.specs.Parentheses.{total, extra, added}
+use Rattle.parentheses.specs.Parts.{parts_of, marks_of}
+use Rattle.parentheses.specs.declared.Part.{Part}
 
--- a number f for each word, added up by s
-module _ (f : ℕ → ℕ) (s : List ℕ → ℕ) (none : s [] ≡ 0) (one : (a : ℕ) (l : List ℕ) → s (a ∷ l) ≡ f a + s l) where
-  sum_more : (l : List ℕ) (i : ℕ) → i < length l → s (take (suc i) l) ≡ s (take i l) + f (get_or l i 0)
-  sum_more [] i h = absurd (omega arith)
-  sum_more (a ∷ l) zero h = omega (arith, none, one a [])
-  sum_more (a ∷ l) (suc i) h = omega (arith, sum_more l i (omega arith), one a (take (suc i) l), one a (take i l))
+-- part i of a list, as `parts[i]` reads it
+abbrev pub no_part : Part
+no_part = record { length = 0; is_placeholder = false; is_enclosed = false }
 
-  sum_back : (l : List ℕ) (i : ℕ) → 0 < i → i ≤ length l → s (take i l) ≡ s (take (i - 1) l) + f (get_or l (i - 1) 0)
-  sum_back l i h k = let e : i ≡ suc (i - 1) = omega arith in ap (λ (j : ℕ). s (take j l)) e ∙ sum_more l (i - 1) (omega arith)
+abbrev pub at : List Part → ℕ → Part
+at ps i = get_or ps i no_part
 
-  sum-part : (l : List ℕ) (i : ℕ) → s (take i l) ≤ s l
-  sum-part l zero = omega (arith, none)
-  sum-part [] (suc i) = omega arith
-  sum-part (a ∷ l) (suc i) = omega (arith, sum-part l i, one a (take i l), one a l)
-
--- of parts
-abbrev sizes : List ℕ → ℕ
-sizes l = total (parts_of l)
-
-no_size : sizes [] ≡ 0
+-- the bytes of parts, as a sum
+pub total_sum : (ps : List Part) → total (parts_of ps) ≡ sum_by (λ p. p.length) ps
 unfolding total
-no_size = refl
+total_sum [] = refl
+total_sum (p ∷ ps) = ap (λ (n : ℕ). p.length + n) (total_sum ps) ∙ sym (sum_by-cons (λ (p : Part). p.length) p ps)
 
-one_size : (a : ℕ) (l : List ℕ) → sizes (a ∷ l) ≡ (part_at a).length + sizes l
+-- one part more
+pub total_push : (ps : List Part) (p : Part) → total (parts_of (ps ++ p ∷ [])) ≡ total (parts_of ps) + p.length
 unfolding total
-one_size a l = refl
+total_push [] p = omega arith
+total_push (q ∷ ps) p = omega (arith, total_push ps p)
 
-pub total-more : (l : List ℕ) (i : ℕ) → i < length l → total (parts_of (take (suc i) l)) ≡ total (parts_of (take i l)) + (part_at (get_or l i 0)).length
-total-more = sum_more (λ a. (part_at a).length) sizes no_size one_size
+pub total_more : (ps : List Part) (i : ℕ) → i < length ps → total (parts_of (take (suc i) ps)) ≡ total (parts_of (take i ps)) + (at ps i).length
+total_more ps i h = rw (take-suc ps i no_part h) (total_push (take i ps) (at ps i))
 
-pub total_back : (l : List ℕ) (i : ℕ) → 0 < i → i ≤ length l → total (parts_of (take i l)) ≡ total (parts_of (take (i - 1) l)) + (part_at (get_or l (i - 1) 0)).length
-total_back = sum_back (λ a. (part_at a).length) sizes no_size one_size
+pub total_part : (ps : List Part) (i : ℕ) → total (parts_of (take i ps)) ≤ total (parts_of ps)
+unfolding total
+total_part ps zero = omega arith
+total_part [] (suc i) = omega arith
+total_part (p ∷ ps) (suc i) = omega (arith, total_part ps i)
 
-pub total-part : (l : List ℕ) (i : ℕ) → total (parts_of (take i l)) ≤ total (parts_of l)
-total-part = sum-part (λ a. (part_at a).length) sizes no_size one_size
-
-pub total-none : total (parts_of []) ≡ 0
-total-none = no_size
-
--- of marks
-pub added_none : added (marks_of []) ≡ 0
+pub added_push : (ps : List Part) (p : Part) → added (marks_of (ps ++ p ∷ [])) ≡ added (marks_of ps) + extra p.is_enclosed
 unfolding added
-added_none = refl
+added_push [] p = omega arith
+added_push (q ∷ ps) p = omega (arith, added_push ps p)
 
-one-added : (a : ℕ) (l : List ℕ) → added (marks_of (a ∷ l)) ≡ extra (is_marked a) + added (marks_of l)
+pub added_part : (ps : List Part) (i : ℕ) → added (marks_of (take i ps)) ≤ added (marks_of ps)
 unfolding added
-one-added a l = refl
-
-pub added_back : (l : List ℕ) (i : ℕ) → 0 < i → i ≤ length l → added (marks_of (take i l)) ≡ added (marks_of (take (i - 1) l)) + extra (is_marked (get_or l (i - 1) 0))
-added_back = sum_back (λ a. extra (is_marked a)) (λ l. added (marks_of l)) added_none one-added
+added_part ps zero = omega arith
+added_part [] (suc i) = omega arith
+added_part (p ∷ ps) (suc i) = omega (arith, added_part ps i)
 
 -- at most two bytes each
-extra_few : (m : Bool) → extra m ≤ 2
+pub extra_few : (m : Bool) → extra m ≤ 2
 extra_few true = omega arith
 extra_few false = omega arith
 

@@ -1,17 +1,17 @@
 -- A text in its parts, those marked in parentheses.
 -- Assumes nothing.
-use mathlib.Core.Path.{◌≡◌, refl, sym, ap, ◌∙◌}
-use mathlib.Core.Bool.{Bool, true, false}
-use mathlib.Core.List.{List, [], ◌∷◌, ◌++◌, flatten}
-use Prim.Native.Nat.{ℕ, suc, ◌+◌, ◌-◌, ◌<◌, ◌≤◌}
-use native.Mathlib.Omega.{arith}
-use borrow.Author.Tests.{eq-eqb, ne_eqb}
-use lib.ListN.{length, get_or, take, drop, set, length-append, length-drop, take-append-drop, drop_of_length-le}
-use lib.Seq.{drop-cons, drop-drop, length-take-le, take_at, drop_at}
+use Rattle.std.proofs.Common.{◌≡◌, refl, sym, ap, ◌∙◌, ℕ, ◌+◌, ◌-◌, ◌≤◌, arith, Bool, true, false, List, [], ◌∷◌, ◌++◌, append_assoc, length, take, drop, append-nil, length-append, length-drop}
+use mathlib.Core.List.{flatten}
+use lib.ListN.{take-append-drop, drop_of_length-le, length-map}
+use lib.Seq.{drop-drop, length-take-le, take-length, take_at, drop_at}
 use Rattle.words.specs.Buffer.{laid}
 use Rattle.words.specs.Texts.{close_text}
-use Rattle.parentheses.specs.Parentheses.{Part, part_at, parts_of, total, is_marked, marks_of, enclosed, extra, wrapped, added, enclosed_each}
-use Rattle.parentheses.proofs.LaidLaws.{length-bytes, laid-nothing, laid-before, bytes-laid, bytes-bytes, two_stores}
+use Rattle.parentheses.specs.Parentheses as spec
+use Rattle.parentheses.specs.Parentheses.{total, enclosed, extra, wrapped, added, enclosed_each}
+use Rattle.parentheses.specs.Parts.{part_of, parts_of, marks_of}
+use Rattle.parentheses.specs.declared.Part.{Part}
+use Rattle.parentheses.proofs.LaidLaws.{length_bytes, laid_nothing, laid_before, bytes_inside, bytes_laid}
+use Rattle.parentheses.proofs.SumLaws.{total_push, total_part, added_push, added_part}
 
 pub length-enclosed : (m : Bool) (t : List ℕ) → length (enclosed m t) ≡ length t + extra m
 length-enclosed true t = omega (arith, length-append t close_text)
@@ -19,7 +19,7 @@ length-enclosed false t = omega arith
 
 -- ---- the text as a whole
 
-pub length-wrapped : (ps : List Part) (ms : List Bool) (t : List ℕ) → length ms ≡ length ps → total ps ≤ length t → length (wrapped ps ms t) ≡ length t + added ms
+pub length-wrapped : (ps : List spec.Part) (ms : List Bool) (t : List ℕ) → length ms ≡ length ps → total ps ≤ length t → length (wrapped ps ms t) ≡ length t + added ms
 unfolding wrapped total added
 length-wrapped [] [] t h k = omega arith
 length-wrapped [] (m ∷ ms) t h k = absurd (omega arith)
@@ -33,7 +33,7 @@ length-wrapped (p ∷ ps) (m ∷ ms) t h k =
     length-append (enclosed m (take n t)) (wrapped ps ms (drop n t)) ∙ omega arith
 
 -- where nothing is marked it is the text
-pub wrapped_unmarked : (ps : List Part) (ms : List Bool) (t : List ℕ) → added ms ≡ 0 → wrapped ps ms t ≡ t
+pub wrapped_unmarked : (ps : List spec.Part) (ms : List Bool) (t : List ℕ) → added ms ≡ 0 → wrapped ps ms t ≡ t
 unfolding wrapped added
 wrapped_unmarked [] ms t h = refl
 wrapped_unmarked (p ∷ ps) [] t h = refl
@@ -41,18 +41,18 @@ wrapped_unmarked (p ∷ ps) (true ∷ ms) t h = absurd (omega arith)
 wrapped_unmarked (p ∷ ps) (false ∷ ms) t h = rw (wrapped_unmarked ps ms (drop p.length t) (omega arith)) (take-append-drop p.length t)
 
 -- the text of a first part, and what follows it
-pub wrapped_cons : (p : Part) (ps : List Part) (m : Bool) (ms : List Bool) (t u : List ℕ) → length t ≡ p.length → wrapped (p ∷ ps) (m ∷ ms) (t ++ u) ≡ enclosed m t ++ wrapped ps ms u
+pub wrapped_cons : (p : spec.Part) (ps : List spec.Part) (m : Bool) (ms : List Bool) (t u : List ℕ) → length t ≡ p.length → wrapped (p ∷ ps) (m ∷ ms) (t ++ u) ≡ enclosed m t ++ wrapped ps ms u
 unfolding wrapped
 wrapped_cons p ps m ms t u h = rw (take_at t u p.length h, drop_at t u p.length h)
 
 -- the lengths of texts are those of parts
-abbrev pub AreOf : List Part → List (List ℕ) → Type 0
+abbrev pub AreOf : List spec.Part → List (List ℕ) → Type 0
 AreOf [] [] = Unit {0}
 AreOf [] (t ∷ ts) = ⊥
 AreOf (p ∷ ps) [] = ⊥
 AreOf (p ∷ ps) (t ∷ ts) = (length t ≡ p.length) × AreOf ps ts
 
-pub length-texts : (ps : List Part) (ts : List (List ℕ)) → AreOf ps ts → length (flatten ts) ≡ total ps
+pub length-texts : (ps : List spec.Part) (ts : List (List ℕ)) → AreOf ps ts → length (flatten ts) ≡ total ps
 unfolding flatten total
 length-texts [] [] w = refl
 length-texts [] (t ∷ ts) w = absurd w
@@ -60,7 +60,7 @@ length-texts (p ∷ ps) [] w = absurd w
 length-texts (p ∷ ps) (t ∷ ts) w = length-append t (flatten ts) ∙ omega (arith, w.0, length-texts ps ts w.1)
 
 -- the texts of the parts laid in turn, each in parentheses where its part is marked: a second rendering
-pub wrapped-each : (ps : List Part) (ms : List Bool) (ts : List (List ℕ)) → length ms ≡ length ps → AreOf ps ts → wrapped ps ms (flatten ts) ≡ flatten (enclosed_each ms ts)
+pub wrapped-each : (ps : List spec.Part) (ms : List Bool) (ts : List (List ℕ)) → length ms ≡ length ps → AreOf ps ts → wrapped ps ms (flatten ts) ≡ flatten (enclosed_each ms ts)
 unfolding wrapped flatten enclosed_each
 wrapped-each [] [] [] h w = refl
 wrapped-each [] [] (t ∷ ts) h w = absurd w
@@ -70,59 +70,93 @@ wrapped-each (p ∷ ps) (m ∷ ms) [] h w = absurd w
 wrapped-each (p ∷ ps) (m ∷ ms) (t ∷ ts) h w =
     wrapped_cons p ps m ms t (flatten ts) w.0 ∙ ap (λ (u : List ℕ). enclosed m t ++ u) (wrapped-each ps ms ts (omega arith) w.1)
 
+-- the last of the first parts of a list, with what is in front of it and behind it
+last_split : (ps left left' : List Part) (p : Part) → take (length left) ps ≡ left → left ≡ left' ++ p ∷ [] → ps ≡ left' ++ (p ∷ drop (length left) ps)
+last_split ps left left' p h e =
+    sym (take-append-drop (length left) ps) ∙ rw h (ap (λ (l : List Part). l ++ drop (length left) ps) e ∙ append_assoc left' (p ∷ []) (drop (length left) ps))
+
+last_front : (ps left left' : List Part) (p : Part) → take (length left) ps ≡ left → left ≡ left' ++ p ∷ [] → take (length left') ps ≡ left'
+last_front ps left left' p h e =
+    ap (λ (l : List Part). take (length left') l) (last_split ps left left' p h e) ∙ take_at left' (p ∷ drop (length left) ps) (length left') refl
+
+last_behind : (ps left left' : List Part) (p : Part) → take (length left) ps ≡ left → left ≡ left' ++ p ∷ [] → drop (length left') ps ≡ p ∷ drop (length left) ps
+last_behind ps left left' p h e =
+    ap (λ (l : List Part). drop (length left') l) (last_split ps left left' p h e) ∙ drop_at left' (p ∷ drop (length left) ps) (length left') refl
+
 -- ---- putting parentheses in, from the last part to the first
 
--- a part that is marked has two bytes more
-pub two-more : (w g : ℕ) → w ≡ 1 → extra (is_marked w) ≤ g → 2 ≤ g
-two-more w g e h = rw (eq-eqb w 1 e) at h
+-- the parts that are left end at `from`; the text of those behind them begins at `to`, and was in d
+pub record Moved (d : List ℕ) (size : ℕ) (parts left : List Part) (from to : ℕ) (out : List ℕ) : Type 0 where
+  pub left_is : take (length left) parts ≡ left
+  pub from_is : from ≡ total (parts_of left)
+  pub to_is : to ≡ from + added (marks_of left)
+  pub out_is : out ≡ laid d to (wrapped (parts_of (drop (length left) parts)) (marks_of (drop (length left) parts)) (drop from (take size d)))
 
--- one that is not is moved
-pub put-plain : (d out : List ℕ) (y n g w : ℕ) → (w ≡ 1 → ⊥) → out ≡ laid d (y + g) (take n (drop y d))
-    → (g ≡ g - extra (is_marked w)) × (out ≡ laid d (y + (g - extra (is_marked w))) (enclosed (is_marked w) (take n (drop y d))))
-put-plain d out y n g w e h = let z : g - 0 ≡ g = omega arith in rw (ne_eqb w 1 e, z) (refl, h)
+module _ {d : List ℕ} {size : ℕ} {parts : List Part} (whole : size ≡ total (parts_of parts)) (room : length d ≡ size + added (marks_of parts)) where
+  pub moved_none : Moved d size parts parts size (length d) d
+  unfolding wrapped
+  moved_none = record {
+    left_is = take-length parts;
+    from_is = whole;
+    to_is = room;
+    out_is = rw (drop_of_length-le parts {i = length parts} (omega arith), drop_of_length-le (take size d) {i = size} (omega (arith, length-take-le size d))) (sym (laid_nothing d (length d)));
+  }
 
-pub put-marked : (d : List ℕ) (y n g w : ℕ) → y + g + n ≤ length d → w ≡ 1 → extra (is_marked w) ≤ g
-    → (g - 2 ≡ g - extra (is_marked w))
-    × (set (set (laid d (y + (g - 1)) (take n (drop y d))) (y + (g - 1) + n) 41) (y + (g - 2)) 40 ≡ laid d (y + (g - extra (is_marked w))) (enclosed (is_marked w) (take n (drop y d))))
-put-marked d y n g w h e k =
-    rw (eq-eqb w 1 e) (refl, two_stores d (take n (drop y d)) y n g 40 41 (length-bytes y n d (omega arith)) h (two-more w g e k))
+  -- a turn: the last of the parts that are left is put before those
+  module _ {left : List Part} (left' : List Part) (p : Part) {from to : ℕ} {out : List ℕ} (last : left ≡ left' ++ p ∷ []) (moved : Moved d size parts left from to out) where
+    bytes : total (parts_of left) ≡ total (parts_of left') + p.length
+    bytes = rw last (total_push left' p)
 
--- from part i on
-abbrev pub wrapped_from : List ℕ → List ℕ → ℕ → List ℕ → List ℕ
-wrapped_from parts marks i t = wrapped (parts_of (drop i parts)) (marks_of (drop i marks)) t
+    marked : added (marks_of left) ≡ added (marks_of left') + extra p.is_enclosed
+    marked = rw last (added_push left' p)
 
-wrapped_from_lem : (parts marks t : List ℕ) (i j : ℕ) → i ≡ suc j → j < length parts → j < length marks
-    → wrapped_from parts marks j t ≡ enclosed (is_marked (get_or marks j 0)) (take (part_at (get_or parts j 0)).length t) ++ wrapped_from parts marks i (drop (part_at (get_or parts j 0)).length t)
-unfolding wrapped
-wrapped_from_lem parts marks t i j e h k = rw (e, drop-cons parts j 0 h, drop-cons marks j 0 k)
+    within : (total (parts_of left) ≤ total (parts_of parts)) × (added (marks_of left) ≤ added (marks_of parts))
+    within = (
+      rw moved.left_is at (total_part parts (length left)),
+      rw moved.left_is at (added_part parts (length left)),
+    )
 
-pub put_start : (d : List ℕ) (b size more : ℕ) (parts marks : List ℕ) → b + size + more ≤ length d
-    → d ≡ laid d (b + size + more) (wrapped_from parts marks (length parts) (drop size (take size (drop b d))))
-unfolding wrapped
-put_start d b size more parts marks h =
-    let l : length (take size (drop b d)) ≡ size = length-bytes b size d (omega arith) in
-    rw (drop_of_length-le parts {i = length parts} (omega arith), drop_of_length-le (take size (drop b d)) {i = size} (omega arith)) (sym (laid-nothing d (b + size + more)))
+    -- there is room for it
+    pub moved_fits : (p.length ≤ from) × (from + extra p.is_enclosed ≤ to) × (to ≤ length d)
+    moved_fits = (
+      omega (arith, bytes, moved.from_is),
+      omega (arith, marked, moved.to_is),
+      omega (arith, moved.from_is, moved.to_is, within),
+    )
 
--- a turn: the text of `size` bytes at b in d, and its part j, of n bytes, which ends at byte x, is put before those behind it; g and h are
--- what the parentheses up to part i and up to part j take
-module _ (d out : List ℕ) (b size x y n g h i j : ℕ) (parts marks : List ℕ) (next : i ≡ suc j) (is : n ≡ (part_at (get_or parts j 0)).length)
-    (ends : y + n ≡ x) (takes : h + extra (is_marked (get_or marks j 0)) ≡ g) (inside : x ≤ size) (room : b + size + g ≤ length d)
-    (one : j < length parts) (same : length marks ≡ length parts) where
-  abbrev text : List ℕ
-  text = take size (drop b d)
+    pub moved_one : {r : ℕ} {out' : List ℕ} → r + p.length + extra p.is_enclosed ≡ to
+        → out' ≡ laid out r (enclosed p.is_enclosed (take p.length (drop (from - p.length) out))) → Moved d size parts left' (from - p.length) r out'
+    unfolding wrapped
+    moved_one {r} e laid_is =
+        let n = p.length in
+        let m = p.is_enclosed in
+        let y = from - n in
+        let text = take size d in
+        let w = wrapped (parts_of (drop (length left) parts)) (marks_of (drop (length left) parts)) (drop from text) in
+        let back : y + n ≡ from = omega (arith, moved_fits.0) in
+        let inside : from ≤ size = omega (arith, moved.from_is, within) in
+        let f : take n (drop y out) ≡ take n (drop y d) = rw moved.out_is (bytes_laid d y n to w (omega (arith, back, moved_fits.1)) moved_fits.2) in
+        let g : take n (drop y text) ≡ take n (drop y d) = bytes_inside y n size d (omega (arith, back)) in
+        let l : length (take n (drop y d)) ≡ n = length_bytes y n d (omega (arith, back)) in
+        let behind : drop (length left') parts ≡ p ∷ drop (length left) parts = last_behind parts left left' p moved.left_is last in
+        record {
+          left_is = last_front parts left left' p moved.left_is last;
+          from_is = omega (arith, bytes, moved.from_is);
+          to_is = omega (arith, marked, moved.to_is, e, back, moved_fits.1);
+          out_is =
+              rw laid_is (rw (f, behind, g, drop-drop n y text, back) (ap (λ (o : List ℕ). laid o r (enclosed m (take n (drop y d)))) moved.out_is
+              ∙ laid_before d r to (enclosed m (take n (drop y d))) w (omega (arith, length-enclosed m (take n (drop y d)), l, e)) moved_fits.2));
+        }
 
-  abbrev part : List ℕ
-  part = take n (drop (b + y) d)
-
-  pub put_step : out ≡ laid d (b + x + g) (wrapped_from parts marks i (drop x text))
-      → laid out (b + y + h) (enclosed (is_marked (get_or marks j 0)) (take n (drop (b + y) out))) ≡ laid d (b + y + h) (wrapped_from parts marks j (drop y text))
-  put_step e =
-      let m = is_marked (get_or marks j 0) in
-      let w = wrapped_from parts marks i (drop x text) in
-      let p : take n (drop (b + y) out) ≡ part = rw e (bytes-laid d (b + y) n (b + x + g) w (omega arith) (omega arith)) in
-      let q : take n (drop y text) ≡ part = bytes-bytes d b y n size (omega arith) in
-      let l : length part ≡ n = length-bytes (b + y) n d (omega arith) in
-      let f : wrapped_from parts marks j (drop y text) ≡ enclosed m part ++ w =
-      wrapped_from_lem parts marks (drop y text) i j next one (omega arith) ∙ rw (← is, q, drop-drop n y text, ends) in
-      rw (p, f) (ap (λ (o : List ℕ). laid o (b + y + h) (enclosed m part)) e
-      ∙ laid-before d (b + y + h) (b + x + g) (enclosed m part) w (omega (arith, length-enclosed m part)) (omega arith))
+  -- none is left
+  pub moved_all : {from to : ℕ} {out : List ℕ} → Moved d size parts [] from to out → out ≡ wrapped (parts_of parts) (marks_of parts) (take size d)
+  unfolding total added
+  moved_all {from} {to} moved =
+      let w = wrapped (parts_of parts) (marks_of parts) (take size d) in
+      let a : from ≡ 0 = moved.from_is in
+      let b : to ≡ 0 = omega (arith, moved.to_is, a) in
+      let l : length (take size d) ≡ size = length-take-le size d (omega arith) in
+      let m : length (marks_of parts) ≡ length (parts_of parts) = length-map parts (λ p. p.is_enclosed) ∙ sym (length-map parts part_of) in
+      let k : length w ≡ length d = length-wrapped (parts_of parts) (marks_of parts) (take size d) m (omega (arith, l)) ∙ omega (arith, l) in
+      let z : drop (0 + length w) d ≡ [] = drop_of_length-le d {i = 0 + length w} (omega (arith, k)) in
+      moved.out_is ∙ rw (a, b, z, append-nil w)

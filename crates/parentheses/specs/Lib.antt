@@ -1,1 +1,2 @@
 pub mod Parentheses
+pub mod Parts

@@ -2,20 +2,13 @@
 -- different order of operations between the search pattern and the replacement template. If any do, then we rerender the template and wrap
 -- the problematic placeholders with parenthesis." A text is rendered in parts, and a part is a placeholder's or not.
 -- Assumes nothing.
-use Rattle.std.specs.Prelude.{ℕ, ◌+◌, ◌/◌, ◌%◌, Bool, false, cond, not, ◌&&◌, ◌||◌, List, [], ◌∷◌, ◌++◌, map, eqb, take, drop}
+use Rattle.std.specs.Prelude.{ℕ, ◌+◌, Bool, false, cond, not, ◌&&◌, ◌||◌, List, [], ◌∷◌, ◌++◌, eqb, take, drop}
 use Rattle.words.specs.Texts.{open_text, close_text}
 use Rattle.parses.specs.Ranges.{NodeRange, is_among}
 
 pub record Part : Type 0 where
   pub length : ℕ
   pub is_placeholder : Bool
-
--- a part is one word: twice its length, and one more for a placeholder's
-abbrev pub part_at : ℕ → Part
-part_at w = record { length = w / 2; is_placeholder = eqb (w % 2) 1 }
-
-abbrev pub parts_of : List ℕ → List Part
-parts_of ws = map part_at ws
 
 -- how many bytes parts have
 unfoldable pub total : List Part → ℕ
@@ -35,16 +28,6 @@ requires ranges x [] = []
 requires ranges x (p ∷ ps) =
     (p.is_placeholder && not (is_among ranges x (x + p.length)) && not (has_range x (x + p.length) (x + p.length) ps))
     ∷ requires ranges (x + p.length) ps
-
--- a mark is one word, 1 where parentheses are required
-abbrev pub bit : Bool → ℕ
-bit required = cond required 1 0
-
-abbrev pub is_marked : ℕ → Bool
-is_marked w = eqb w 1
-
-abbrev pub marks_of : List ℕ → List Bool
-marks_of ws = map is_marked ws
 
 -- a part's text, in parentheses if it is marked, and how many bytes these take
 abbrev pub enclosed : Bool → List ℕ → List ℕ

@@ -1,124 +1,95 @@
 // Parentheses: which placeholders of a first rendering require them, and putting them in where the rendering stands.
 #![tactic(auto)]
 
-ghost use Rattle.std.specs.Prelude.{◌≡◌, ◌&&◌, not, map, ◌+◌, ◌-◌, ◌*◌, ◌≤◌, eqb, length, take, drop};
+ghost use Rattle.std.specs.Prelude.{◌≡◌, ◌&&◌, not, ◌+◌, ◌*◌, ◌≤◌, eqb, length, take, drop};
 ghost use Rattle.words.specs.Buffer.{laid};
-ghost use Rattle.parses.specs.Ranges.{ranges_of, is_among};
-ghost use Rattle.parentheses.specs.Parentheses.{part_at, parts_of, total, requires, bit, is_marked, marks_of, enclosed, extra, wrapped, added};
+ghost use Rattle.parses.specs.Ranges.{ranges_in, is_among};
+ghost use Rattle.parentheses.specs.Parentheses.{total, requires, enclosed, extra, wrapped, added};
+ghost use Rattle.parentheses.specs.Parts.{parts_of, marks_of};
 
-// How many bytes a part has.
-fn length_of(part: u32) -> usize
-    ensures { result ≡ (part_at part).length }
-{
-    (part / 2) as usize
-}
-
-// Whether a part is a placeholder's.
-fn is_placeholder(part: u32) -> bool
-    ensures { result ≡ (part_at part).is_placeholder }
-{
-    part % 2 == 1
+// What a fragment of the template rendered: how many bytes, whether it is a placeholder's, and whether it is put in parentheses.
+#[derive(Clone, Copy)]
+pub struct Part {
+    pub length: u32,
+    pub is_placeholder: bool,
+    pub is_enclosed: bool,
 }
 
 // How many bytes parts have.
-fn total_length(parts: &[u32]) -> usize
+#[tactic(auto, using(crate::proofs::SumLaws::total_sum))]
+fn total_length(parts: &[Part]) -> usize
     requires { total (parts_of parts.now) ≤ 1048576 }
     ensures { result ≡ total (parts_of parts.now) }
 {
-    let mut n = 0;
-    let mut i = 0;
-    while i < parts.len() {
-        n += length_of(parts[i]);
-        i += 1;
-    }
-    n
+    parts.iter().map(|part| part.length as usize).sum()
 }
 
-// The mark of a part at byte x, and whether an empty placeholder's part follows behind it without a byte between.
-fn mark_of(ranges: &[u32], part: u32, x: usize, follows: bool) -> u32
-    requires { x + (part_at part).length ≤ 1048576 }
-    ensures value { result ≡ bit ((part_at part).is_placeholder && not (is_among (ranges_of ranges.now) x (x + (part_at part).length)) && not (eqb (part_at part).length 0 && follows)) }
-    ensures upper_bound { result ≤ 1 }
+// Whether a part at a byte requires parentheses, where an empty placeholder's part follows behind it without a byte between or not.
+fn is_required(ranges: &[[u32; 2]], part: Part, start: usize, is_followed: bool) -> bool
+    requires { start + part.length ≤ 1048576 }
+    ensures { result ≡ (part.is_placeholder && not (is_among (ranges_in ranges.now) start (start + part.length)) && not (eqb part.length 0 && is_followed)) }
 {
-    let n = length_of(part);
-    if is_placeholder(part) & !((n == 0) & follows) {
-        if parses::is_node_range(ranges, x, x + n) {
-            return 0;
-        }
-        return 1;
-    }
-    0
+    let n = part.length as usize;
+    part.is_placeholder
+        && !(n == 0 && is_followed)
+        && !parses::is_node_range(ranges, start, start + n)
+}
+
+// How many bytes the parentheses of a part take.
+fn extra(is_enclosed: bool) -> usize
+    ensures { result ≡ extra is_enclosed }
+{
+    if is_enclosed { 2 } else { 0 }
 }
 
 // Marks the parts that require parentheses, from the last to the first, and answers how many bytes these take.
-pub fn mark_parts(ranges: &[u32], parts: &[u32], marks: &mut [u32]) -> usize
-    requires { (length marks.old ≡ length parts.now) × (total (parts_of parts.now) ≤ 1048576) × (length parts.now ≤ 16384) }
-    ensures marks_after { marks.new ≡ map bit (requires (ranges_of ranges.now) 0 (parts_of parts.now)) }
-    ensures value { (result ≡ added (requires (ranges_of ranges.now) 0 (parts_of parts.now))) × (result ≤ 2 * length parts.now) }
+pub fn mark_parts(ranges: &[[u32; 2]], parts: &mut [Part]) -> usize
+    requires { (total (parts_of parts.old) ≤ 1048576) × (length parts.old ≤ 16384) }
+    ensures same_parts { parts_of parts.new ≡ parts_of parts.old }
+    ensures marks { marks_of parts.new ≡ requires (ranges_in ranges.now) 0 (parts_of parts.old) }
+    ensures value { (result ≡ added (requires (ranges_in ranges.now) 0 (parts_of parts.old))) × (result ≤ 2 * length parts.old) }
 {
-    let mut x = total_length(parts);
+    let mut start = total_length(parts);
     let mut more = 0;
-    let mut follows = false;
-    let mut i = parts.len();
-    while 0 < i {
-        i -= 1;
+    let mut is_followed = false;
+    for i in (0..parts.len()).rev() {
         let part = parts[i];
-        let n = length_of(part);
-        x -= n;
-        let mark = mark_of(ranges, part, x, follows);
-        marks[i] = mark;
-        more += 2 * (mark as usize);
-        follows = (n == 0) & (is_placeholder(part) | follows);
+        start -= part.length as usize;
+        let is_enclosed = is_required(ranges, part, start, is_followed);
+        parts[i].is_enclosed = is_enclosed;
+        more += extra(is_enclosed);
+        is_followed = (part.length == 0) & (part.is_placeholder | is_followed);
     }
     more
 }
 
-// The n bytes at a place are laid again d places further on; the two may overlap.
-fn shift(out: &mut [u8], y: usize, n: usize, d: usize)
-    requires { y + d + n ≤ length out.old }
-    ensures { out.new ≡ laid out.old (y + d) (take n (drop y out.old)) }
+// The part of n bytes at a place is moved, and put in parentheses if it is marked, so that it ends at another place; answers where it begins.
+fn put_part(out: &mut [u8], from: usize, n: usize, end: usize, is_enclosed: bool) -> usize
+    requires { (from + n + extra is_enclosed ≤ end) × (end ≤ length out.old) }
+    ensures { (result + n + extra is_enclosed ≡ end) × (out.new ≡ laid out.old result (enclosed is_enclosed (take n (drop from out.old)))) }
 {
-    let mut i = n;
-    while 0 < i {
-        i -= 1;
-        out[y + d + i] = out[y + i];
+    if !is_enclosed {
+        out.copy_within(from..from + n, end - n);
+        return end - n;
     }
+    let start = end - n - 2;
+    out.copy_within(from..from + n, start + 1);
+    out[end - 1] = b')';
+    out[start] = b'(';
+    start
 }
 
-// The part of n bytes at a place is moved g places on, or put in parentheses so that it ends there; answers what is left of g.
-fn put_part(out: &mut [u8], y: usize, n: usize, g: usize, mark: u32) -> usize
-    requires { (y + g + n ≤ length out.old) × (extra (is_marked mark) ≤ g) }
-    ensures { (result ≡ g - extra (is_marked mark)) × (out.new ≡ laid out.old (y + (g - extra (is_marked mark))) (enclosed (is_marked mark) (take n (drop y out.old)))) }
+// A text of `size` bytes, which stands in front of the room for its parentheses, gets them, from the last part to the first: each byte is
+// moved once.
+pub fn put_parentheses(out: &mut [u8], size: usize, parts: &[Part])
+    requires { (size ≡ total (parts_of parts.now)) × (length out.old ≡ size + added (marks_of parts.now)) }
+    ensures { out.new ≡ wrapped (parts_of parts.now) (marks_of parts.now) (take size out.old) }
 {
-    if mark == 1 {
-        shift(out, y, n, g - 1);
-        out[y + (g - 1) + n] = b')';
-        out[y + (g - 2)] = b'(';
-        return g - 2;
-    }
-    shift(out, y, n, g);
-    g
-}
-
-// The text of `size` bytes at b gets its parentheses, `more` bytes, from the last part to the first: each byte is moved once.
-pub fn put_parentheses(
-    out: &mut [u8],
-    b: usize,
-    size: usize,
-    more: usize,
-    parts: &[u32],
-    marks: &[u32],
-)
-    requires { (b + size + more ≤ length out.old) × (length marks.now ≡ length parts.now) × (size ≡ total (parts_of parts.now)) × (more ≡ added (marks_of marks.now)) }
-    ensures { out.new ≡ laid out.old b (wrapped (parts_of parts.now) (marks_of marks.now) (take size (drop b out.old))) }
-{
-    let mut x = size;
-    let mut g = more;
-    let mut i = parts.len();
-    while 0 < i {
-        i -= 1;
-        let n = length_of(parts[i]);
-        x -= n;
-        g = put_part(out, b + x, n, g, marks[i]);
+    let mut from = size;
+    let mut to = out.len();
+    for part in parts.iter().rev() {
+        let n = part.length as usize;
+        from -= n;
+        to = put_part(out, from, n, to, part.is_enclosed);
     }
 }

@@ -3,81 +3,80 @@
 
 mod repeats; // repeats.rt: whether kind and text come twice
 
-ghost use Rattle.std.specs.Prelude.{◌≡◌, true, length};
-ghost use Rattle.errors.specs.Refusals.{ok};
+ghost use Rattle.std.specs.Prelude.{◌≡◌, MatchResult};
+ghost use Rattle.errors.specs.Refusals.{ok, err};
 ghost use Rattle.parses.specs.Ranges.{is_range, are_ranges};
-ghost use Rattle.parses.specs.Parses.{is_parse, is_parse_list, parses_outcome};
+ghost use Rattle.parses.specs.Parses.{is_parse, is_parse_list, parses_of, parses_outcome};
 
 use errors::Refusal;
-use parses::parse_words;
+use parses::{Parses, Parts, parse_words};
 use words::{fields, slices};
 
 // Whether a part begins with a range inside n bytes.
-fn is_range(c: &[u32], n: usize) -> bool
-    ensures { result ≡ is_range n c.now }
+fn is_range(words: &[u32], n: usize) -> bool
+    ensures { result ≡ is_range n words.now }
 {
-    (fields::kind(c, 0) == 3)
-        & (fields::kind(c, 1) == 4)
-        & (fields::value(c, 0) <= fields::value(c, 1))
-        & (fields::value(c, 1) as usize <= n)
+    (fields::kind(words, 0) == 3)
+        & (fields::kind(words, 1) == 4)
+        & (fields::value(words, 0) <= fields::value(words, 1))
+        & (fields::value(words, 1) as usize <= n)
 }
 
 // Whether all words are those of ranges inside n bytes.
+#[tactic(auto, using(crate::proofs::RangeLaws::ranges_even, crate::proofs::RangeLaws::ranges_odd))]
 fn are_ranges(words: &[u32], n: usize) -> bool
     ensures { result ≡ are_ranges n words.now }
 {
-    let mut c = words;
-    while 2 <= c.len() {
-        if is_range(c, n) {
-            let d = slices::tail(c, 2);
-            c = d;
-        } else {
-            return false;
-        }
-    }
-    c.len() == 0
+    let (pairs, half) = words.as_chunks::<2>();
+    half.is_empty() && pairs.iter().all(|pair| is_range(pair, n))
 }
 
 // Whether a part begins with a well-formed parse over a parse text of n bytes.
-fn is_parse(c: &[u32], n: usize) -> bool
-    ensures { result ≡ is_parse n c.now }
+fn is_parse(words: &[u32], n: usize) -> bool
+    ensures { result ≡ is_parse n words.now }
 {
-    let end = parse_words(c);
-    if c.len() < end {
+    let Some(ranges) = words.get(3..parse_words(words)) else {
         return false;
-    }
-    if (fields::kind(c, 0) == 8) & (fields::parse_kind(c) != 0) & is_range(slices::tail(c, 1), n) {
-        return are_ranges(&c[3..end], fields::end(c) - fields::start(c));
+    };
+    if (fields::kind(words, 0) == 8)
+        & (fields::parse_kind(words) != 0)
+        & is_range(slices::tail(words, 1), n)
+    {
+        return are_ranges(
+            ranges,
+            fields::end(words).saturating_sub(fields::start(words)),
+        );
     }
     false
 }
 
 // Whether all words are those of well-formed parses over a parse text of n bytes.
-fn is_parse_list(parses: &[u32], n: usize) -> bool
-    ensures { result ≡ is_parse_list n parses.now }
+fn is_parse_list(words: &[u32], n: usize) -> bool
+    ensures { result ≡ is_parse_list n words.now }
 {
-    let mut c = parses;
-    while 0 < c.len() {
-        if is_parse(c, n) {
-            let d = slices::tail(c, parse_words(c));
-            c = d;
-        } else {
-            return false;
-        }
-    }
-    true
+    Parts::of(words).all(|part| is_parse(part, n))
 }
 
 // 28, over a parse text.
-pub fn check_parses(parses: &[u32], text: &[u8]) -> Result<(), Refusal>
-    ensures value { result ≡ parses_outcome parses.now text.now }
-    ensures parses_value { result ≡ ok → is_parse_list (length text.now) parses.now ≡ true }
+#[tactic(auto, unfolding(errors::specs::Refusals::first_of))]
+pub fn check_parses<'a>(words: &'a [u32], text: &'a [u8]) -> Result<Parses<'a>, Refusal>
+    ensures { MatchResult result
+        (λ parses. (parses_outcome words.now text.now ≡ ok) × (parses ≡ parses_of words.now text.now))
+        (λ refusal. parses_outcome words.now text.now ≡ err refusal) }
 {
-    if is_parse_list(parses, text.len()) {
-        if repeats::is_repeated(parses, text) {
-            return Err(Refusal::MalformedParses);
-        }
-        return Ok(());
+    if !is_parse_list(words, text.len()) {
+        return Err(Refusal::MalformedParses);
     }
-    Err(Refusal::MalformedParses)
+    let parses = Parses::new(words, text);
+
+    // Comparing few parses takes less time than counting their marks.
+    let is_repeated = if words.len() < 512 {
+        repeats::is_repeated(&parses)
+    } else {
+        repeats::is_repeated_among_many(&parses)
+    };
+    if is_repeated {
+        return Err(Refusal::MalformedParses);
+    }
+    Ok(parses)
 }

@@ -6,9 +6,9 @@ use Prim.Native.Nat.{ℕ}
 use Rattle.errors.specs.Refusals.{Outcome, ok, err}
 use Rattle.errors.specs.declared.Refusal.TheVariants.{MalformedParses}
 use Rattle.errors.specs.Refusals.{first_of}
-use Rattle.words.specs.Texts.{part, same_text}
+use Rattle.words.specs.Texts.{part}
 use Rattle.parses.specs.Ranges.{ranges_of, are_ranges}
-use Rattle.parses.specs.Parses.{parts_from, parses_of, are_parses, is_parse_list, lookup, is_repeated, parses_outcome}
+use Rattle.parses.specs.Parses.{parts_from, is_repeated, parses_outcome}
 
 record Example : Type 0 where
   words : List ℕ
@@ -43,5 +43,5 @@ examples =
 
 -- every list of words is accepted or refused as the table says
 answered : map (λ (e : Example). parses_outcome e.words e.text) examples ≡ map (λ (e : Example). e.outcome) examples
-unfolding first_of part ranges_of are_ranges parts_from parses_of are_parses is_parse_list lookup is_repeated
+unfolding first_of part ranges_of are_ranges parts_from is_repeated
 answered = refl

@@ -1,32 +1,20 @@
--- Node ranges in a list of words, from the front.
+-- Node ranges in a list of words, and in pairs of words.
 -- Assumes nothing.
-use mathlib.Core.Path.{◌≡◌, refl}
-use mathlib.Core.Bool.{false, ◌||◌}
-use mathlib.Core.List.{List, [], ◌∷◌}
-use Prim.Native.Nat.{ℕ, ◌<◌, ◌≤◌}
-use native.Mathlib.Omega.{arith}
-use lib.ListN.{length, drop}
-use Rattle.parses.specs.Ranges.{range_at, ranges_of, is_from, is_among}
+use Rattle.std.proofs.Common.{◌≡◌, refl, ap, ℕ, suc, ◌/◌, arith, Bool, ◌||◌, List, [], ◌∷◌, length}
+use Rattle.std.specs.Simd.{first_chunks}
+use Rattle.std.specs.List.{list_any}
+use Rattle.parses.specs.Ranges.{NodeRange, range_at, ranges_of, ranges_in}
 
--- the first two words are the first range
-ranges_cons : (l : List ℕ) → 2 ≤ length l → ranges_of l ≡ range_at l ∷ ranges_of (drop 2 l)
+-- the words of a list in pairs have its ranges
+pub ranges_pairs : (l : List ℕ) → ranges_in (first_chunks 2 (length l / 2) l) ≡ ranges_of l
 unfolding ranges_of
-ranges_cons [] h = absurd (omega arith)
-ranges_cons (a ∷ []) h = absurd (omega arith)
-ranges_cons (a ∷ (b ∷ l)) h = refl
+ranges_pairs [] = refl
+ranges_pairs (a ∷ []) = refl
+ranges_pairs (a ∷ (b ∷ l)) =
+    let e : length (a ∷ b ∷ l) / 2 ≡ suc (length l / 2) = omega arith in
+    rw e (ap (λ (rs : List NodeRange). range_at (a ∷ b ∷ l) ∷ rs) (ranges_pairs l))
 
--- fewer words are none
-ranges_none : (l : List ℕ) → length l < 2 → ranges_of l ≡ []
-unfolding ranges_of
-ranges_none [] h = refl
-ranges_none (a ∷ []) h = refl
-ranges_none (a ∷ (b ∷ l)) h = absurd (omega arith)
-
-module _ (start end : ℕ) (l : List ℕ) where
-  pub among-step : 2 ≤ length l → is_among (ranges_of l) start end ≡ (is_from start end (range_at l) || is_among (ranges_of (drop 2 l)) start end)
-  unfolding is_among
-  among-step h = rw (ranges_cons l h)
-
-  pub among_none : length l < 2 → is_among (ranges_of l) start end ≡ false
-  unfolding is_among
-  among_none h = rw (ranges_none l h)
+-- a test of pairs
+pub any_ranges : (p : NodeRange → Bool) (pairs : List (List ℕ)) → list_any p (ranges_in pairs) ≡ list_any (λ c. p (range_at c)) pairs
+any_ranges p [] = refl
+any_ranges p (c ∷ pairs) = ap (λ (b : Bool). p (range_at c) || b) (any_ranges p pairs)

@@ -1,3 +1,2 @@
 pub mod Ranges
 pub mod Parses
-pub mod Answers

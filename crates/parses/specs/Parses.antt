@@ -1,7 +1,8 @@
 -- Parses, document 01, "Words": "Parse: a kind 8 word (12 bits template root kind, 16 bits count of node ranges, 0 for does not parse), the
 -- text's start and end (kinds 3 and 4) in the parse text, then each node range (kinds 3 and 4) .. inside the text's length."
 -- Assumes nothing.
-use Rattle.std.specs.Prelude.{ℕ, zero, suc, ◌+◌, ◌-◌, ◌*◌, Bool, true, false, cond, not, ◌&&◌, ◌||◌, List, [], ◌∷◌, map, eqb, leb, length, take, drop}
+use Rattle.std.specs.Prelude.{ℕ, zero, suc, ◌+◌, ◌-◌, ◌*◌, Bool, false, not, ◌&&◌, ◌||◌, List, [], ◌∷◌, map, eqb, leb, length, take, drop, Option, option_map, is_some}
+use Rattle.std.specs.List.{find, list_all}
 use Rattle.words.specs.Fields.{kind_at, start_of, end_of, parse_kind, parse_count}
 use Rattle.words.specs.Texts.{part, same_text}
 use Rattle.errors.specs.Refusals.{Outcome}
@@ -32,7 +33,7 @@ parts_from zero (w ∷ l) = (w ∷ l) ∷ parts_from (2 + 2 * parse_count (w ∷
 parts_from (suc skipped) (w ∷ l) = parts_from skipped l
 
 -- the parses of a list of words, over a parse text
-unfoldable pub parses_of : List ℕ → List ℕ → List Parse
+abbrev pub parses_of : List ℕ → List ℕ → List Parse
 parses_of l text = map (parse_at text) (parts_from 0 l)
 
 -- every word is there; "a kind 8 word" with a node's kind; "the text's start and end .. in the parse text", one of n bytes;
@@ -42,36 +43,22 @@ is_parse n c =
     leb (parse_words c) (length c) && eqb (kind_at c 0) 8 && not (eqb (parse_kind c) 0) && is_range n (drop 1 c)
     && are_ranges (end_of c - start_of c) (range_words c)
 
-unfoldable pub are_parses : ℕ → List (List ℕ) → Bool
-are_parses n [] = true
-are_parses n (c ∷ cs) = is_parse n c && are_parses n cs
-
 -- a list of words is well-formed parses over a parse text of n bytes
-unfoldable pub is_parse_list : ℕ → List ℕ → Bool
-is_parse_list n l = are_parses n (parts_from 0 l)
-
--- what is known of a rendering: "a first rendering .. has no parse", or its parse with the node ranges
-pub data Lookup : Type 0 where
-  missing : Lookup
-  handed : (ranges : List NodeRange) → Lookup
-
-abbrev pub is_handed : Lookup → Bool
-is_handed missing = false
-is_handed (handed ranges) = true
+abbrev pub is_parse_list : ℕ → List ℕ → Bool
+is_parse_list n l = list_all (is_parse n) (parts_from 0 l)
 
 -- a parse of a kind and a text
 abbrev pub is_of : ℕ → List ℕ → Parse → Bool
 is_of kind t p = eqb p.kind kind && same_text p.text t
 
--- the first one
-unfoldable pub lookup : List Parse → ℕ → List ℕ → Lookup
-lookup [] kind t = missing
-lookup (p ∷ ps) kind t = cond (is_of kind t p) (handed p.ranges) (lookup ps kind t)
+-- what is known of a rendering: "a first rendering .. has no parse", or the node ranges of its first parse
+abbrev pub lookup : List Parse → ℕ → List ℕ → Option (List NodeRange)
+lookup ps kind t = option_map (λ p. p.ranges) (find (is_of kind t) ps)
 
 -- "kind and text repeated": a later parse has both
 unfoldable pub is_repeated : List Parse → Bool
 is_repeated [] = false
-is_repeated (p ∷ ps) = is_handed (lookup ps p.kind p.text) || is_repeated ps
+is_repeated (p ∷ ps) = is_some (lookup ps p.kind p.text) || is_repeated ps
 
 -- "28 parses malformed or kind and text repeated"
 abbrev pub parses_outcome : List ℕ → List ℕ → Outcome

@@ -1,84 +1,163 @@
-// The parses that are handed in: the look-up by kind and text, and the node ranges.
+// The parses that are handed in: their list, the look-up by kind and text, and the node ranges.
 #![tactic(auto)]
 
-ghost use Rattle.std.specs.Prelude.{◌≡◌, true, ◌+◌, ◌*◌, ◌≤◌, length};
-ghost use Rattle.words.specs.Fields.{start_of, end_of};
-ghost use Rattle.words.specs.Texts.{part};
-ghost use Rattle.parses.specs.Ranges.{ranges_of, is_among};
-ghost use Rattle.parses.specs.Parses.{parse_words, parse_at, parses_of, is_parse_list, is_of, lookup};
-ghost use Rattle.parses.specs.Answers.{found_is};
+mod parts; // parts.rt: the words from each parse on
 
-use words::{fields, slices};
+ghost use Rattle.std.specs.Prelude.{◌≡◌, true, length, option_map, ◌∷◌, [], MatchOption};
+ghost use Rattle.parses.specs.Ranges.{range_at, ranges_in, is_from, is_among};
+ghost use Rattle.parses.specs.Parses.{is_parse_list, parses_of, is_of, lookup};
+ghost use Rattle.std.specs.List.{find};
+ghost use Rattle.std.specs.Iterator.{YieldsFirst, item_count};
 
-// Where the node ranges of a parse stand: at a word, and how many they are. Where no parse is found, both are 0.
-#[derive(Clone, Copy)]
-pub struct Found {
-    pub found: bool,
-    pub at: usize,
-    pub count: usize,
+pub use parts::{Parts, parse_words};
+use std::marker::Model;
+use words::fields;
+
+// Whether a node range is from start to end.
+fn is_from(range: &[u32; 2], start: usize, end: usize) -> bool
+    ensures { result ≡ is_from start end (range_at range.now) }
+{
+    (fields::value(range, 0) as usize == start) & (fields::value(range, 1) as usize == end)
 }
 
-// Whether one of the ranges is from start to end.
-pub fn is_node_range(ranges: &[u32], start: usize, end: usize) -> bool
-    ensures { result ≡ is_among (ranges_of ranges.now) start end }
+// Whether one of the node ranges is from start to end.
+pub fn is_node_range(ranges: &[[u32; 2]], start: usize, end: usize) -> bool
+    ensures { result ≡ is_among (ranges_in ranges.now) start end }
 {
-    let mut c = ranges;
-    while 2 <= c.len() {
-        if (fields::value(c, 0) as usize == start) & (fields::value(c, 1) as usize == end) {
-            return true;
+    ranges.iter().any(|range| is_from(range, start, end))
+}
+
+// A parse: its template root kind, its text, and its node ranges, of each the words of its start and its end.
+#[derive(Drop)]
+pub struct Parse<'a> {
+    pub kind: u32,
+    pub text: &'a [u8],
+    pub ranges: &'a [[u32; 2]],
+}
+
+impl<'a> Model for Parse<'a> {
+    ghost use Rattle.parses.specs.Ranges.{ranges_in};
+    ghost use Rattle.parses.specs.Parses as spec;
+
+    ghost Value = { spec.Parse };
+
+    ghost view = { λ p. record { kind = p.kind; text = p.text.now; ranges = ranges_in p.ranges.now } };
+}
+
+impl<'a> Parse<'a> {
+    // Whether it is of a kind and a text.
+    pub fn is_of(&self, kind: u32, text: &[u8]) -> bool
+        ensures { result ≡ is_of kind text.now self.now }
+    {
+        self.kind == kind && self.text == text
+    }
+}
+
+// Well-formed parses: their words, and the text that these speak of.
+#[derive(Drop)]
+pub struct Parses<'a> {
+    words: &'a [u32],
+    text: &'a [u8],
+}
+
+impl<'a> Model for Parses<'a> {
+    ghost use Rattle.std.specs.Prelude.{◌≡◌, true, List, length};
+    ghost use Rattle.parses.specs.Parses as spec;
+
+    ghost Value = { List spec.Parse };
+
+    ghost view = { λ p. spec.parses_of p.words.now p.text.now };
+
+    ghost invariant = { λ p. spec.is_parse_list (length p.text.now) p.words.now ≡ true };
+}
+
+impl<'a> Parses<'a> {
+    pub fn new(words: &'a [u32], text: &'a [u8]) -> Parses<'a>
+        requires { is_parse_list (length text.now) words.now ≡ true }
+        ensures { result ≡ parses_of words.now text.now }
+    {
+        Parses { words, text }
+    }
+
+    // The first parse, and the list of those behind it.
+    #[tactic(auto, using(crate::proofs::ParseLaws::parses_cons, crate::proofs::ParseLaws::parses_none, crate::proofs::ParseLaws::list_behind))]
+    pub fn split_first(&self) -> Option<(Parse<'a>, Parses<'a>)>
+        ensures { MatchOption result (self.now ≡ []) (λ r. self.now ≡ r.0 ∷ r.1) }
+    {
+        if self.words.is_empty() {
+            return None;
         }
-        let d = slices::tail(c, 2);
-        c = d;
+        let first = Parse {
+            kind: fields::parse_kind(self.words),
+            text: parts::text_of(self.words, self.text),
+            ranges: parts::ranges_of(self.words),
+        };
+        let rest = Parses {
+            words: parts::behind(self.words),
+            text: self.text,
+        };
+        Some((first, rest))
     }
-    false
-}
 
-// How many words the parse that a part begins with has.
-pub fn parse_words(c: &[u32]) -> usize
-    ensures { result ≡ parse_words c.now }
-{
-    3 + 2 * fields::parse_count(c)
-}
-
-// Its text.
-pub fn parse_text<'a>(c: &[u32], text: &'a [u8]) -> &'a [u8]
-    ensures { result.now ≡ part text.now (start_of c.now) (end_of c.now) }
-{
-    slices::part_of(text, fields::start(c), fields::end(c))
-}
-
-// Whether the parse that a part begins with is of a kind and a text.
-fn is_parse_of(c: &[u32], text: &[u8], kind: u32, t: &[u8]) -> bool
-    ensures { result ≡ is_of kind t.now (parse_at text.now c.now) }
-{
-    let own = fields::parse_kind(c);
-    if own == kind {
-        return parse_text(c, text) == t;
-    }
-    false
-}
-
-// The first parse of a kind and a text.
-pub fn find_parse(parses: &[u32], text: &[u8], kind: u32, t: &[u8]) -> Found
-    requires { is_parse_list (length text.now) parses.now ≡ true }
-    ensures result_value { found_is parses.now result ≡ lookup (parses_of parses.now text.now) kind t.now }
-    ensures count_in_bounds { result.at + 2 * result.count ≤ length parses.now }
-{
-    let mut i = 0;
-    while i < parses.len() {
-        let c = slices::tail(parses, i);
-        if is_parse_of(c, text, kind, t) {
-            return Found {
-                found: true,
-                at: i + 3,
-                count: fields::parse_count(c),
-            };
+    pub fn iter(&self) -> Iter<'a>
+        ensures { result ≡ self.now }
+    {
+        Iter {
+            rest: Parses {
+                words: self.words,
+                text: self.text,
+            },
         }
-        i += parse_words(c);
     }
-    Found {
-        found: false,
-        at: 0,
-        count: 0,
+
+    // The first parse of a kind and a text.
+    fn find(&self, kind: u32, text: &[u8]) -> Option<Parse<'a>>
+        ensures { result ≡ find (is_of kind text.now) self.now }
+    {
+        self.iter().find(|parse| parse.is_of(kind, text))
+    }
+
+    // Its node ranges.
+    pub fn find_parse(&self, kind: u32, text: &[u8]) -> Option<&'a [[u32; 2]]>
+        ensures { option_map (λ r. ranges_in r.now) result ≡ lookup self.now kind text.now }
+    {
+        self.find(kind, text).map(|parse| parse.ranges)
+    }
+}
+
+// The parses that are left of a list.
+#[derive(Drop)]
+pub struct Iter<'a> {
+    rest: Parses<'a>,
+}
+
+impl<'a> Model for Iter<'a> {
+    ghost use Rattle.std.specs.Prelude.{List};
+    ghost use Rattle.parses.specs.Parses as spec;
+
+    ghost Value = { List spec.Parse };
+
+    ghost view = { λ i. i.rest };
+}
+
+impl<'a> Iter<'a> {
+    pub fn as_parses(&self) -> &Parses<'a>
+        ensures { result.now ≡ self.now }
+    {
+        &self.rest
+    }
+}
+
+impl<'a> Iterator for Iter<'a> {
+    type Item = Parse<'a>;
+
+    ghost next_gives = { YieldsFirst (λ s. s) };
+
+    ghost remaining = { item_count (λ s. s) };
+
+    fn next(&mut self) -> Option<Parse<'a>> {
+        let (first, rest) = self.rest.split_first()?;
+        self.rest = rest;
+        Some(first)
     }
 }

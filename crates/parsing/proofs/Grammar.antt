@@ -11,13 +11,14 @@ use native.Mathlib.Omega.{arith}
 use lib.Dec.{leb}
 use lib.ListN.{length, length-append}
 use borrow.Author.Tests.{eqb-true, eqb-false, eq-eqb, ne_eqb, lt-leb, leb-false}
+use Rattle.std.proofs.Common.{Option, Some, None}
 use Rattle.errors.specs.declared.Refusal.{Refusal}
-use Rattle.words.specs.Texts.{part, same_text, kind_text, not_text, literal_text, open_text, close_text}
+use Rattle.words.specs.Texts.{part, kind_text, not_text, literal_text, open_text, close_text}
 use Rattle.words.proofs.TextLaws.{same_equal, equal_same}
 use Rattle.tokens.specs.declared.Token.{Token}
 use Rattle.tokens.specs.Tokens.{token_text, tokens_from, is_token_list, all_token_words, total_length}
-use Rattle.parsing.specs.Reading.{Var, Element, plain, placeholder, vars, has_name, read, refused, Name, no_name, named, Open, more, State, top, dollar, brace, inside, constraint, not_open, kind_open, kind_name, kind_close, closing, closed, is_ident, is_dollar, is_open_brace, is_colon, is_closing_brace, name_of, behind, Next, go, stop, follow, is_text, is_repeated, ended_as, step, run, reading, at_end}
-use Rattle.parsing.specs.Placeholders.{mores}
+use Rattle.parsing.specs.Reading.{Var, Element, plain, placeholder, vars, has_name, read, refused, Open, more, State, top, dollar, brace, inside, constraint, not_open, kind_open, kind_name, kind_close, closing, closed, is_ident, is_dollar, is_open_brace, is_colon, is_closing_brace, name_of, behind, Next, go, stop, follow, is_text, is_repeated, ended_as, step, run, reading, at_end}
+use Rattle.parsing.specs.Steps.{mores}
 use Rattle.parsing.specs.Grammar.{Ident, Dollar, LeftBrace, RightBrace, Colon, Says, Constraint, kind_literal, negated, Constraints, unconstrained, constrained, Placeholder, bare, braced, Pattern, nothing, token, place, New, Distinct, Reads}
 
 -- a placeholder by its parts
@@ -114,13 +115,13 @@ module _ (text : List ℕ) where
   module _ (acc : List Element) where
     runs_placeholder : {ps : List Token} {v : Var} → Placeholder text ps v → is_repeated text (vars acc) v.name ≡ false → leb 8 (length (vars acc)) ≡ false → (ts : List Token) → run text acc top (ps ++ ts) ≡ run text (acc ++ (placeholder v ∷ [])) top ts
     runs_placeholder (bare d x hd hx) new few ts =
-        on acc acc top (dollar d.start) d (x ∷ ts) (rw hd)
-        ∙ on acc _ (dollar d.start) top x ts (rw (eq-eqb x.kind 1 hx, new, few))
+        on acc acc top (dollar d.range.start) d (x ∷ ts) (rw hd)
+        ∙ on acc _ (dollar d.range.start) top x ts (rw (eq-eqb x.kind 1 hx, new, few))
     runs_placeholder (braced d o x c {cs = cs} {ns = ns} hd ho hx h hc) new few ts =
-        let p : Open = record { start = d.start; name = named x; nots = [] } in
-        on acc acc top (dollar d.start) d (o ∷ x ∷ (cs ++ (c ∷ []) ++ ts)) (rw hd)
-        ∙ on acc acc (dollar d.start) (brace d.start) o (x ∷ (cs ++ (c ∷ []) ++ ts)) (rw ho)
-        ∙ on acc acc (brace d.start) (inside p) x (cs ++ (c ∷ []) ++ ts) (rw (eq-eqb x.kind 1 hx))
+        let p : Open = record { start = d.range.start; name = Some x; nots = [] } in
+        on acc acc top (dollar d.range.start) d (o ∷ x ∷ (cs ++ (c ∷ []) ++ ts)) (rw hd)
+        ∙ on acc acc (dollar d.range.start) (brace d.range.start) o (x ∷ (cs ++ (c ∷ []) ++ ts)) (rw ho)
+        ∙ on acc acc (brace d.range.start) (inside p) x (cs ++ (c ∷ []) ++ ts) (rw (eq-eqb x.kind 1 hx))
         ∙ rw (append_assoc cs (c ∷ []) ts) (runs_constraints h acc p (c ∷ ts))
         ∙ on acc _ (inside (mores p ns)) top c ts (rw (hc, new, few))
 
@@ -140,7 +141,7 @@ module _ (text : List ℕ) where
 
   -- constraints and `}`
   data Inside (p : Open) : List Token → Var → Type 0 where
-    ends : (x c : Token) {cs : List Token} {ns : List ℕ} → p.name ≡ named x → Constraints text cs ns → RightBrace c → Inside p (cs ++ (c ∷ [])) (var p.start (behind c) x (p.nots ++ ns))
+    ends : (x c : Token) {cs : List Token} {ns : List ℕ} → p.name ≡ Some x → Constraints text cs ns → RightBrace c → Inside p (cs ++ (c ∷ [])) (var p.start (behind c) x (p.nots ++ ns))
 
   -- k times `)` first
   data Closing (p : Open) (n : ℕ) : ℕ → List Token → Var → Type 0 where
@@ -158,8 +159,8 @@ module _ (text : List ℕ) where
   -- where a placeholder or a constraint has begun, its rest is what completes it, whichever tokens it began with
   abbrev Accepts : State → List Token → List Element → Type 0
   Accepts top ts es = Pattern text ts es
-  Accepts (dollar s) ts es = Then (λ ps v. (d : Token) → Dollar d → d.start ≡ s → Placeholder text (d ∷ ps) v) ts es
-  Accepts (brace s) ts es = Then (λ ps v. (d o : Token) → Dollar d → d.start ≡ s → LeftBrace o → Placeholder text (d ∷ o ∷ ps) v) ts es
+  Accepts (dollar s) ts es = Then (λ ps v. (d : Token) → Dollar d → d.range.start ≡ s → Placeholder text (d ∷ ps) v) ts es
+  Accepts (brace s) ts es = Then (λ ps v. (d o : Token) → Dollar d → d.range.start ≡ s → LeftBrace o → Placeholder text (d ∷ o ∷ ps) v) ts es
   Accepts (inside p) ts es = Then (Inside p) ts es
   Accepts (constraint p n) ts es = Then (Negated p n) ts es
   Accepts (not_open p n) ts es = Then (λ ps v. (k : Token) → Says text k not_text → Negated p n (k ∷ ps) v) ts es
@@ -178,12 +179,12 @@ module _ (text : List ℕ) where
 
   -- ---- a token of each state
 
-  before-first : (s : ℕ) (x : Token) (ps : List Token) (v : Var) → Inside (record { start = s; name = name_of x; nots = [] }) ps v → (d o : Token) → Dollar d → d.start ≡ s → LeftBrace o → Placeholder text (d ∷ o ∷ x ∷ ps) v
+  before-first : (s : ℕ) (x : Token) (ps : List Token) (v : Var) → Inside (record { start = s; name = name_of x; nots = [] }) ps v → (d o : Token) → Dollar d → d.range.start ≡ s → LeftBrace o → Placeholder text (d ∷ o ∷ x ∷ ps) v
   before-first s x ps v (ends y c {cs = cs} {ns = ns} n h hc) d o hd e ho = by (is_ident x) refl
     where
       by : (b : Bool) → is_ident x ≡ b → Placeholder text (d ∷ o ∷ x ∷ (cs ++ (c ∷ []))) (var s (behind c) y ns)
-      by true i = let f : named x ≡ named y = rw i at n in let g : x ≡ y = cc in rw (← g, ← e) (braced d o x c hd ho (eqb-true x.kind 1 i) h hc)
-      by false i = absurd (let f : no_name ≡ named y = rw i at n in let z : ◌≡◌ {A = ℕ} 0 1 = cc in omega arith)
+      by true i = let f : Some x ≡ Some y = rw i at n in let g : x ≡ y = cc in rw (← g, ← e) (braced d o x c hd ho (eqb-true x.kind 1 i) h hc)
+      by false i = absurd (let f : None ≡ Some y = rw i at n in let z : ◌≡◌ {A = ℕ} 0 1 = cc in omega arith)
 
   before-constraint : (p : Open) (t : Token) → Colon t → (ps : List Token) (v : Var) → Negated p 0 ps v → Inside p (t ∷ ps) v
   before-constraint p t ht ps v (begins {cs = a} {ps = qs} {m = m} h r) = by m qs v h r
@@ -239,19 +240,19 @@ module _ (text : List ℕ) where
       })
 
   -- the token at which a placeholder ends
-  steps_end : (acc : List Element) (s : State) (t : Token) (start : ℕ) (name : Name) (ns : List ℕ) (end : ℕ) → ((x : Token) → name ≡ named x → (ts : List Token) (es : List Element) → Pattern text ts es → Accepts s (t ∷ ts) (placeholder (var start end x ns) ∷ es)) → Steps acc s t (ended_as text acc start name ns end)
-  steps_end acc s t start no_name ns end f = tt
-  steps_end acc s t start (named x) ns end f =
+  steps_end : (acc : List Element) (s : State) (t : Token) (start : ℕ) (name : Option Token) (ns : List ℕ) (end : ℕ) → ((x : Token) → name ≡ Some x → (ts : List Token) (es : List Element) → Pattern text ts es → Accepts s (t ∷ ts) (placeholder (var start end x ns) ∷ es)) → Steps acc s t (ended_as text acc start name ns end)
+  steps_end acc s t start None ns end f = tt
+  steps_end acc s t start (Some x) ns end f =
       let v : Var = var start end x ns in
       pick (Steps acc s t) (is_repeated text (vars acc) x) _ _ (λ e. tt) (λ r. pick (Steps acc s t) (leb 8 (length (vars acc))) _ _ (λ e. tt) (λ l. record { added = placeholder v ∷ []; joined = refl; accepts = f x refl; kept = kept_more acc v r l }))
 
-  at-dollar : (t : Token) → Dollar t → (ts : List Token) (es : List Element) → Accepts (dollar t.start) ts es → Pattern text (t ∷ ts) es
+  at-dollar : (t : Token) → Dollar t → (ts : List Token) (es : List Element) → Accepts (dollar t.range.start) ts es → Pattern text (t ∷ ts) es
   at-dollar t h ts es (and_then r q) = place (r t h refl) q
 
-  at_name : (s : ℕ) (t : Token) → Ident t → (x : Token) → named t ≡ named x → (ts : List Token) (es : List Element) → Pattern text ts es → Accepts (dollar s) (t ∷ ts) (placeholder (var s (behind t) x []) ∷ es)
+  at_name : (s : ℕ) (t : Token) → Ident t → (x : Token) → Some t ≡ Some x → (ts : List Token) (es : List Element) → Pattern text ts es → Accepts (dollar s) (t ∷ ts) (placeholder (var s (behind t) x []) ∷ es)
   at_name s t h x e ts es q = and_then {ps = t ∷ []} {v = var s (behind t) x []} (λ d hd i. let g : t ≡ x = cc in rw (← g, ← i) (bare d t hd h)) q
 
-  at-brace : (p : Open) (t : Token) → RightBrace t → (x : Token) → p.name ≡ named x → (ts : List Token) (es : List Element) → Pattern text ts es → Accepts (inside p) (t ∷ ts) (placeholder (var p.start (behind t) x p.nots) ∷ es)
+  at-brace : (p : Open) (t : Token) → RightBrace t → (x : Token) → p.name ≡ Some x → (ts : List Token) (es : List Element) → Pattern text ts es → Accepts (inside p) (t ∷ ts) (placeholder (var p.start (behind t) x p.nots) ∷ es)
   at-brace p t h x e ts es q = let r : Inside p (t ∷ []) (var p.start (behind t) x (p.nots ++ [])) = ends x t e unconstrained h in and_then {ps = t ∷ []} (rw (append-nil p.nots) at r) q
 
   says_so : (t : Token) (x : List ℕ) → is_text text t x ≡ true → Says text t x
@@ -263,8 +264,8 @@ module _ (text : List ℕ) where
     wants s s' t b x f g = pick (Steps acc s t) b (go acc s') x (λ e. quiet acc s s' t (f e)) (λ e. g)
 
     steps : (s : State) (t : Token) → Steps acc s t (step text acc s t)
-    steps top t = pick (Steps acc top t) (is_dollar t) _ _ (λ e. quiet acc top (dollar t.start) t (at-dollar t (eqb-true t.kind 8 e))) (λ e. record { added = plain t ∷ []; joined = refl; accepts = λ ts es q. token t (eqb-false t.kind 8 e) q; kept = kept-plain acc t })
-    steps (dollar s) t = pick (Steps acc (dollar s) t) (is_ident t) _ _ (λ e. steps_end acc (dollar s) t s (named t) [] (behind t) (at_name s t (eqb-true t.kind 1 e))) (λ _. wants (dollar s) (brace s) t (is_open_brace t) _ (λ e. before t (λ ps v r d hd i. r d t hd i (eqb-true t.kind 9 e))) tt)
+    steps top t = pick (Steps acc top t) (is_dollar t) _ _ (λ e. quiet acc top (dollar t.range.start) t (at-dollar t (eqb-true t.kind 8 e))) (λ e. record { added = plain t ∷ []; joined = refl; accepts = λ ts es q. token t (eqb-false t.kind 8 e) q; kept = kept-plain acc t })
+    steps (dollar s) t = pick (Steps acc (dollar s) t) (is_ident t) _ _ (λ e. steps_end acc (dollar s) t s (Some t) [] (behind t) (at_name s t (eqb-true t.kind 1 e))) (λ _. wants (dollar s) (brace s) t (is_open_brace t) _ (λ e. before t (λ ps v r d hd i. r d t hd i (eqb-true t.kind 9 e))) tt)
     steps (brace s) t = quiet acc (brace s) _ t (before t (before-first s t))
     steps (inside p) t = wants (inside p) (constraint p 0) t (is_colon t) _ (λ e. before t (before-constraint p t (eqb-true t.kind 10 e))) (pick (Steps acc (inside p) t) (is_closing_brace t) _ _ (λ e. steps_end acc (inside p) t p.start p.name p.nots (behind t) (at-brace p t (eqb-true t.kind 6 e))) (λ _. tt))
     steps (constraint p n) t = wants (constraint p n) (kind_open p n) t (is_text text t kind_text) _ (λ e. before t (λ ps v r. r t (says_so t kind_text e))) (wants (constraint p n) (not_open p n) t (is_text text t not_text) _ (λ e. before t (λ ps v r. r t (says_so t not_text e))) tt)
@@ -333,12 +334,12 @@ abbrev word : ℕ → ℕ → ℕ
 word k n = 536870912 + k * 65536 + n
 
 -- `x$a`
-short : Reads (word 1 1 ∷ word 8 1 ∷ word 1 1 ∷ []) (120 ∷ 36 ∷ 97 ∷ []) (plain (record { kind = 1; start = 0; length = 1 }) ∷ placeholder (var 1 3 (record { kind = 1; start = 2; length = 1 }) []) ∷ [])
+short : Reads (word 1 1 ∷ word 8 1 ∷ word 1 1 ∷ []) (120 ∷ 36 ∷ 97 ∷ []) (plain (record { kind = 1; range = record { start = 0; end = 1 } }) ∷ placeholder (var 1 3 (record { kind = 1; range = record { start = 2; end = 3 } }) []) ∷ [])
 unfolding reading run is_token_list all_token_words total_length tokens_from has_name vars
 short = (read_exactly _ _ _).0 refl
 
 -- `${a:not(kind(literal))}`
-long : Reads (word 8 1 ∷ word 9 1 ∷ word 1 1 ∷ word 10 1 ∷ word 1 3 ∷ word 168 1 ∷ word 1 4 ∷ word 168 1 ∷ word 1 7 ∷ word 5 1 ∷ word 5 1 ∷ word 6 1 ∷ []) (36 ∷ 123 ∷ 97 ∷ 58 ∷ not_text ++ open_text ++ kind_text ++ open_text ++ literal_text ++ close_text ++ close_text ++ (125 ∷ [])) (placeholder (var 0 23 (record { kind = 1; start = 2; length = 1 }) (1 ∷ [])) ∷ [])
+long : Reads (word 8 1 ∷ word 9 1 ∷ word 1 1 ∷ word 10 1 ∷ word 1 3 ∷ word 168 1 ∷ word 1 4 ∷ word 168 1 ∷ word 1 7 ∷ word 5 1 ∷ word 5 1 ∷ word 6 1 ∷ []) (36 ∷ 123 ∷ 97 ∷ 58 ∷ not_text ++ open_text ++ kind_text ++ open_text ++ literal_text ++ close_text ++ close_text ++ (125 ∷ [])) (placeholder (var 0 23 (record { kind = 1; range = record { start = 2; end = 3 } }) (1 ∷ [])) ∷ [])
 unfolding reading run is_token_list all_token_words total_length tokens_from has_name vars part
 long = (read_exactly _ _ _).0 refl
 

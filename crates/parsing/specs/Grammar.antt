@@ -44,9 +44,9 @@ module _ (text : List ℕ) where
   -- a placeholder: from its `$` to behind its last token, with its name and constraints
   pub data Placeholder : List Token → Var → Type 0 where
     -- "$<name>"
-    bare : (d x : Token) → Dollar d → Ident x → Placeholder (d ∷ x ∷ []) (record { start = d.start; end = behind x; name = x; nots = [] })
+    bare : (d x : Token) → Dollar d → Ident x → Placeholder (d ∷ x ∷ []) (record { start = d.range.start; end = behind x; name = x; nots = [] })
     -- "${<name>:<constraint1>:<constraint2>...}"
-    braced : (d o x c : Token) {cs : List Token} {ns : List ℕ} → Dollar d → LeftBrace o → Ident x → Constraints cs ns → RightBrace c → Placeholder (d ∷ o ∷ x ∷ (cs ++ (c ∷ []))) (record { start = d.start; end = behind c; name = x; nots = ns })
+    braced : (d o x c : Token) {cs : List Token} {ns : List ℕ} → Dollar d → LeftBrace o → Ident x → Constraints cs ns → RightBrace c → Placeholder (d ∷ o ∷ x ∷ (cs ++ (c ∷ []))) (record { start = d.range.start; end = behind c; name = x; nots = ns })
 
   -- a list of placeholders and of other tokens, of which none is `$`
   pub data Pattern : List Token → List Element → Type 0 where

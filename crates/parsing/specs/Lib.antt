@@ -1,5 +1,5 @@
 pub mod Reading
-pub mod Answers
-pub mod Steps
-pub mod Placeholders
 pub mod Grammar
+pub mod Patterns
+pub mod Vars
+pub mod Steps

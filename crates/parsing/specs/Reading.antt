@@ -1,7 +1,7 @@
 -- Reading tokens, document 01, "Refusals by operation": what a token list is read as, and the first refusal met from the left.
 -- Each state says what may stand at the next token; `run` names the refusal where something else stands, and where the list ends.
 -- Assumes nothing.
-use Rattle.std.specs.Prelude.{ℕ, zero, suc, ◌+◌, Bool, true, false, cond, ◌||◌, List, [], ◌∷◌, ◌++◌, eqb, leb, length}
+use Rattle.std.specs.Prelude.{ℕ, zero, suc, ◌+◌, Bool, false, cond, ◌||◌, List, [], ◌∷◌, ◌++◌, eqb, leb, length, Option, Some, None, Result, Ok, Err}
 use Rattle.errors.specs.declared.Refusal.{Refusal}
 use Rattle.errors.specs.declared.Refusal.TheVariants.{MalformedList, EndsAfterBrace, EndsBeforeClosingBrace, UnexpectedToken, NeitherNameNorBrace, NoName, EndsBeforeConstraint, UnsupportedConstraint, MissingParenthesis, NoKindIdent, UnknownKind, RepeatedName, NinthPlaceholder}
 use Rattle.words.specs.Texts.{same_text, kind_text, not_text, literal_text, open_text, close_text}
@@ -27,19 +27,19 @@ vars (plain t ∷ es) = vars es
 vars (placeholder v ∷ es) = v ∷ vars es
 
 -- a list is read, or refused
-pub data Reading : Type 0 where
-  read : List Element → Reading
-  refused : Refusal → Reading
+abbrev pub Reading : Type 0
+Reading = Result (List Element) Refusal
 
--- a placeholder's name, where its token is an IDENT
-pub data Name : Type 0 where
-  no_name : Name
-  named : Token → Name
+abbrev pub read : List Element → Reading
+read es = Ok es
 
--- a placeholder in braces so far
+abbrev pub refused : Refusal → Reading
+refused r = Err r
+
+-- a placeholder in braces so far; its name is there where the first token is an IDENT
 pub record Open : Type 0 where
   pub start : ℕ
-  pub name : Name
+  pub name : Option Token
   pub nots : List ℕ
 
 -- one constraint more, with n `not`s
@@ -79,12 +79,12 @@ is_open_brace t = eqb t.kind 9
 abbrev pub is_colon : Token → Bool
 is_colon t = eqb t.kind 10
 
-abbrev pub name_of : Token → Name
-name_of t = cond (is_ident t) (named t) no_name
+abbrev pub name_of : Token → Option Token
+name_of t = cond (is_ident t) (Some t) None
 
 -- the byte behind a token
 abbrev pub behind : Token → ℕ
-behind t = t.start + t.length
+behind t = t.range.end
 
 -- the refusal where a list ends
 abbrev pub at_end : List Element → State → Reading
@@ -123,9 +123,9 @@ module _ (text : List ℕ) where
   is_repeated vs t = has_name vs (token_text text t)
 
   -- a placeholder ends at a byte: "6 no name", "12 name repeated", "13 ninth placeholder, its name new"
-  abbrev pub ended_as : List Element → ℕ → Name → List ℕ → ℕ → Next
-  ended_as acc s no_name ns end = stop NoName
-  ended_as acc s (named t) ns end =
+  abbrev pub ended_as : List Element → ℕ → Option Token → List ℕ → ℕ → Next
+  ended_as acc s None ns end = stop NoName
+  ended_as acc s (Some t) ns end =
       cond (is_repeated (vars acc) t) (stop RepeatedName)
       (cond (leb 8 (length (vars acc))) (stop NinthPlaceholder)
       (go (acc ++ (placeholder (record { start = s; end = end; name = t; nots = ns }) ∷ [])) top))
@@ -135,9 +135,9 @@ module _ (text : List ℕ) where
 
   -- what a token gives in a state
   abbrev pub step : List Element → State → Token → Next
-  step acc top t = cond (is_dollar t) (go acc (dollar t.start)) (go (acc ++ (plain t ∷ [])) top)
+  step acc top t = cond (is_dollar t) (go acc (dollar t.range.start)) (go (acc ++ (plain t ∷ [])) top)
   step acc (dollar s) t =
-      cond (is_ident t) (ended_as acc s (named t) [] (behind t))
+      cond (is_ident t) (ended_as acc s (Some t) [] (behind t))
       (cond (is_open_brace t) (go acc (brace s)) (stop NeitherNameNorBrace))
   step acc (brace s) t = go acc (inside (record { start = s; name = name_of t; nots = [] }))
   step acc (inside p) t =
@@ -162,3 +162,11 @@ module _ (text : List ℕ) where
 -- "1 malformed list or over 255 tokens. Then the first met from the left"
 unfoldable pub reading : List ℕ → List ℕ → Reading
 reading words text = cond (is_token_list words text) (run text [] top (tokens_from words 0)) (refused MalformedList)
+
+-- the placeholders of a reading, or its refusal
+abbrev pub placeholders_in : Reading → Result (List Var) Refusal
+placeholders_in (Ok es) = Ok (vars es)
+placeholders_in (Err r) = Err r
+
+abbrev pub placeholders : List ℕ → List ℕ → Result (List Var) Refusal
+placeholders words text = placeholders_in (reading words text)

@@ -1,42 +1,63 @@
--- What each function of the code reads: from a state at a cursor to a state at a later one, or to a refusal.
+-- What each function of the code reads: from a state at the tokens left before to a state at those left behind, or to a refusal.
 -- Assumes nothing.
-use Rattle.std.specs.Prelude.{ℕ, ◌+◌, ◌≤◌, ◌≡◌, List}
+use Rattle.std.specs.Prelude.{ℕ, ◌+◌, ◌*◌, ◌≤◌, ◌≡◌, Bool, true, false, List, [], ◌∷◌, ◌++◌, length, Some, Result, Ok, Err}
+use Rattle.arrayvec.specs.ArrayVec.{ArrayVec}
 use Rattle.errors.specs.declared.Refusal.{Refusal}
-use Rattle.tokens.specs.declared.Cursor.{Cursor}
+use Rattle.errors.specs.declared.Refusal.TheVariants.{MissingParenthesis}
+use Rattle.errors.specs.Refusals.{Outcome}
 use Rattle.tokens.specs.declared.Token.{Token}
-use Rattle.tokens.specs.Tokens.{Along, rest}
-use Rattle.parsing.specs.declared.constraints.Constraint.{Constraint}
-use Rattle.parsing.specs.declared.constraints.Constraint.TheVariants.{Nots, Refused}
-use Rattle.parsing.specs.declared.constraints.Inside.{Inside}
-use Rattle.parsing.specs.declared.constraints.Inside.TheVariants as in-braces
-use Rattle.parsing.specs.Reading.{Element, Open, State, Reading, refused, constraint, kind_open, kind_close, closing, closed, inside, more, run, follow, ended}
+use Rattle.parsing.specs.declared.patterns.Placeholder.{Placeholder}
+use Rattle.parsing.specs.Reading.{Var, Element, placeholder, vars, Next, go, stop, Open, State, refused, top, constraint, kind_open, closed, inside, is_text, run, follow, ended, ended_as}
+use Rattle.parsing.specs.Patterns.{var_of}
 
-module _ (words text : List ℕ) (c : Cursor) where
-  -- from a state at the cursor to another at d, whatever was read before
-  abbrev pub Leads : Cursor → State → State → Type 0
-  Leads d s s' = (acc : List Element) → run text acc s (rest words c) ≡ run text acc s' (rest words d)
+-- with more constraints
+abbrev pub mores : Open → List ℕ → Open
+mores p ns = record { start = p.start; name = p.name; nots = p.nots ++ ns }
 
-  -- from a state at the cursor to a refusal
-  abbrev pub Stops : State → Refusal → Type 0
-  Stops s r = (acc : List Element) → run text acc s (rest words c) ≡ refused r
+-- `text` is the list's text
+module _ (text : List ℕ) where
+  -- from a state to another, whatever was read before
+  abbrev pub Leads : State → List Token → State → List Token → Type 0
+  Leads s ts s' left = (acc : List Element) → run text acc s ts ≡ run text acc s' left
 
-  abbrev pub KindEndRead : Token → Constraint → Type 0
-  KindEndRead name (Nots m d) = (m ≡ 0) × Along words d × (d.index ≡ c.index + 1) × ((p : Open) (n : ℕ) → Leads d (kind_close p n name) (closed p n n))
-  KindEndRead name (Refused r) = (p : Open) (n : ℕ) → Stops (kind_close p n name) r
+  -- from a state to a refusal
+  abbrev pub Stops : State → List Token → Refusal → Type 0
+  Stops s ts r = (acc : List Element) → run text acc s ts ≡ refused r
 
-  abbrev pub KindRead : Constraint → Type 0
-  KindRead (Nots m d) = (m ≡ 0) × Along words d × (d.index ≡ c.index + 3) × ((p : Open) (n : ℕ) → Leads d (kind_open p n) (closed p n n))
-  KindRead (Refused r) = (p : Open) (n : ℕ) → Stops (kind_open p n) r
+  -- a placeholder's end: the element it adds, or the refusal of its name
+  abbrev pub ended_var : List Element → Var → Next
+  ended_var acc v = ended_as text acc v.start (Some v.name) v.nots v.end
 
-  abbrev pub NotClosed : ℕ → Constraint → Type 0
-  NotClosed k (Nots m d) = (m ≡ k + 1) × Along words d × (d.index ≡ c.index + 1) × ((p : Open) (n j : ℕ) → Leads d (closing p n j) (closed p n j))
-  NotClosed k (Refused r) = (p : Open) (n j : ℕ) → Stops (closing p n j) r
+  -- the first of some tokens has a text
+  abbrev pub head_is : List Token → List ℕ → Bool
+  head_is [] x = false
+  head_is (t ∷ ts) x = is_text text t x
 
-  abbrev pub ConstraintRead : Constraint → Type 0
-  ConstraintRead (Nots m d) = Along words d × (c.index + m + 4 ≤ d.index) × ((p : Open) (n : ℕ) → Leads d (constraint p n) (closed p (n + m) n))
-  ConstraintRead (Refused r) = (p : Open) (n : ℕ) → Stops (constraint p n) r
+  abbrev pub TextRead : List ℕ → List Token → Outcome → List Token → Type 0
+  TextRead x ts (Ok tt) left = (t : Token) × (ts ≡ t ∷ left) × (is_text text t x ≡ true)
+  TextRead x ts (Err r) left = (r ≡ MissingParenthesis) × (head_is ts x ≡ false)
 
-  abbrev pub InsideRead : Inside → Type 0
-  InsideRead (in-braces.Nots m d) = Along words d × (c.index + m + 5 ≤ d.index) × ((p : Open) → Leads d (inside p) (inside (more p m)))
-  InsideRead (in-braces.Close d) = Along words d × (d.index ≡ c.index + 1) × ((acc : List Element) (p : Open) → run text acc (inside p) (rest words c) ≡ follow (ended text acc p d.at) (λ acc s. run text acc s (rest words d)))
-  InsideRead (in-braces.Refused r) = (p : Open) → Stops (inside p) r
+  abbrev pub KindRead : List Token → Outcome → List Token → Type 0
+  KindRead ts (Ok tt) left = (length left + 3 ≤ length ts) × ((p : Open) (n : ℕ) → Leads (kind_open p n) ts (closed p n n) left)
+  KindRead ts (Err r) left = (p : Open) (n : ℕ) → Stops (kind_open p n) ts r
+
+  abbrev pub ConstraintRead : List Token → Result ℕ Refusal → List Token → Type 0
+  ConstraintRead ts (Ok m) left = (length left + m + 4 ≤ length ts) × ((p : Open) (n : ℕ) → Leads (constraint p n) ts (closed p (n + m) n) left)
+  ConstraintRead ts (Err r) left = (p : Open) (n : ℕ) → Stops (constraint p n) ts r
+
+  abbrev pub BracesRead : List Token → Result (ArrayVec ℕ × ℕ) Refusal → List Token → Type 0
+  BracesRead ts (Ok b) left =
+      (length left + 5 * length b.0.items + 1 ≤ length ts)
+      × ((acc : List Element) (p : Open) → run text acc (inside p) ts ≡ follow (ended text acc (mores p b.0.items) b.1) (λ acc s. run text acc s left))
+  BracesRead ts (Err r) left = (p : Open) → Stops (inside p) ts r
+
+  abbrev pub PlaceholderRead : State → List Token → Result Placeholder Refusal → List Token → Type 0
+  PlaceholderRead s ts (Ok p) left =
+      (length left + 5 * length p.nots.items + 1 ≤ length ts)
+      × ((acc : List Element) → run text acc s ts ≡ follow (ended_var acc (var_of p)) (λ acc s. run text acc s left))
+  PlaceholderRead s ts (Err r) left = Stops s ts r
+
+  -- a placeholder taken in behind others, or the refusal of its name
+  abbrev pub Added : List Var → Var → Outcome → List Var → Type 0
+  Added vs v (Ok tt) ws = (ws ≡ vs ++ (v ∷ [])) × ((acc : List Element) → vars acc ≡ vs → ended_var acc v ≡ go (acc ++ (placeholder v ∷ [])) top)
+  Added vs v (Err r) ws = (acc : List Element) → vars acc ≡ vs → ended_var acc v ≡ stop r

@@ -1,98 +1,116 @@
--- The tables: what stands at an element after notes, what it says, and the facts that a whole tree's tables rest on.
+-- The table: one note written into a column, what a column says after notes, and the facts that a tree's table rests on.
 -- Assumes nothing.
 use mathlib.Core.Path.{◌≡◌, refl, sym, ◌∙◌}
 use mathlib.Core.Bool.{Bool, true, false, cond, not, ◌&&◌}
-use mathlib.Core.List.{List, [], ◌∷◌, ◌++◌}
-use Prim.Native.Nat.{ℕ, zero, suc, ◌+◌, ◌-◌, ◌/◌, ◌≤◌, ◌<◌}
+use mathlib.Core.List.{List, [], ◌∷◌}
+use Prim.Native.Nat.{ℕ, zero, suc, ◌/◌, ◌≤◌, ◌<◌}
 use native.Mathlib.Omega.{arith}
 use lib.Dec.{eqb, leb}
-use lib.ListN.{length, set, get_or, replicate, length-set, length-replicate, get_or-replicate, get_or-append}
+use lib.ListN.{length, set, get_or, replicate, length-set, length-replicate, get_or-replicate, get_or-eq_default}
 use lib.Seq.{get_or-set_same, get_or-set_other}
-use borrow.Author.Tests.{eq-eqb, ne_eqb, lt-ltb, le-ltb, leb-true}
-use Rattle.words.proofs.TestLaws.{same_or, and_both, and_of}
+use borrow.Author.Tests.{eq-eqb, ne_eqb, leb-true}
+use Rattle.std.specs.Prelude.{Option, Some, None, Ok, Err, IfOk}
+use Rattle.std.specs.Option.{option_or}
+use Rattle.std.proofs.Math.Seq.{map-set_same}
+use Rattle.std.proofs.lemmas.List.{map-set}
+use Rattle.words.proofs.TestLaws.{same_or, low_or, and_both, and_of}
+use Rattle.errors.specs.Refusals.{Outcome}
 use Rattle.syntax.specs.Trees.{Elems, none, tree}
 use Rattle.syntax.specs.Checks.{WellFormed}
 use Rattle.facts.specs.declared.Owner.{Owner}
-use Rattle.facts.specs.Facts.{facts_of, are_fact_words, are_facts, has_repeated, has_gap, is_fact_list, fact_index}
-use Rattle.facts.specs.Keys.{AreLow, index_of, Indexed}
+use Rattle.facts.specs.Facts.{facts_of, are_fact_words, are_facts, has_repeated, has_gap, is_fact_list}
+use Rattle.facts.specs.Keys.{AreLow}
 use Rattle.facts.proofs.FactLaws.{all_facts, length_facts}
-use Rattle.facts.proofs.ListLaws.{list_low, list_indexed}
-use Rattle.paths.specs.Steps.{Side, resolution_at, path_place}
-use Rattle.paths.specs.Resolved.{Note, later, last_note, path_by, typed_by, call_by}
-use Rattle.paths.specs.Tables.{noted, AtSiblings, HasFacts, TablesOf}
-use Rattle.facts.specs.declared.PathAt.TheVariants.{ResolvedTo}
-use Rattle.facts.specs.declared.CallAt.TheVariants.{Call, TypedCall}
+use Rattle.facts.proofs.ListLaws.{list_low}
+use Rattle.paths.specs.Steps.{Side}
+use Rattle.paths.specs.Resolved.{is_unresolved, Note, last_note, resolved_paths, calls}
+use Rattle.paths.specs.Tables.{paths_of, calls_of, noted, AtSiblings, HasFacts, path_in, call_in, NotesOf}
+use Rattle.paths.specs.declared.resolving.Noted.{Noted}
+use Rattle.paths.proofs.WalkLaws.{was_good}
+use Rattle.paths.proofs.PastLaws.{no_path, no_call}
 
--- ---- notes
+-- ---- one note written
 
-later-some : (a b : ℕ) → (a ≡ 0 → ⊥) → later a b ≡ a
-later-some a b h = rw (ne_eqb a 0 h)
+module _ (notes : List Noted) (i : ℕ) (new old : Noted) where
+  pub path_set : paths_of (set notes i new) ≡ set (paths_of notes) i new.path
+  path_set = map-set (λ (n : Noted). n.path) notes i new
 
-later_in : (a v g : ℕ) (q : Bool) → later a (cond q (1 + v) g) ≡ later (later a (cond q (1 + v) 0)) g
-later_in a v g q =
-    same_or a 0 (λ h. rw h (at_zero q))
-    (λ h. later-some a _ h ∙ sym (rw (later-some a (cond q (1 + v) 0) h) (later-some a g h)))
-  where
-    at_zero : (b : Bool) → cond b (1 + v) g ≡ later (cond b (1 + v) 0) g
-    at_zero true = sym (later-some (1 + v) g (λ h. omega arith))
-    at_zero false = refl
+  pub call_set : calls_of (set notes i new) ≡ set (calls_of notes) i new.call
+  call_set = map-set (λ (n : Noted). n.call) notes i new
 
-set_at : (t : List ℕ) (i v e : ℕ) → e < length t → get_or (set t i v) e 0 ≡ cond (eqb i e) v (get_or t e 0)
-set_at t i v e h =
-    same_or i e (λ s. rw (eq-eqb i e s, s) (get_or-set_same t e v 0 h)) (λ d. rw (ne_eqb i e d) (get_or-set_other t i e v 0 (λ s. d (sym s))))
+  pub path_kept : new.path ≡ (get_or notes i old).path → paths_of (set notes i new) ≡ paths_of notes
+  path_kept h = map-set_same (λ (n : Noted). n.path) notes i new old h
 
--- a table after notes: the last one, or what stood there
-noted-at : (ns : List Note) (t : List ℕ) (e : ℕ) → e < length t → get_or (noted ns t) e 0 ≡ later (last_note e ns) (get_or t e 0)
+  pub call_kept : new.call ≡ (get_or notes i old).call → calls_of (set notes i new) ≡ calls_of notes
+  call_kept h = map-set_same (λ (n : Noted). n.call) notes i new old h
+
+-- ---- notes in a column
+
+abbrev Column : Type 0
+Column = List (Option ℕ)
+
+or_none : (a : Option ℕ) → option_or a None ≡ a
+or_none None = refl
+or_none (Some x) = refl
+
+or_in : (a : Option ℕ) (v : ℕ) (g : Option ℕ) (q : Bool) → option_or a (cond q (Some v) g) ≡ option_or (option_or a (cond q (Some v) None)) g
+or_in None v g true = refl
+or_in None v g false = refl
+or_in (Some x) v g q = refl
+
+set_at : (t : Column) (i e : ℕ) (v : Option ℕ) → e < length t → get_or (set t i v) e None ≡ cond (eqb i e) v (get_or t e None)
+set_at t i e v h =
+    same_or i e (λ s. rw (eq-eqb i e s, s) (get_or-set_same t e v None h)) (λ d. rw (ne_eqb i e d) (get_or-set_other t i e v None (λ s. d (sym s))))
+
+-- a column after notes: the last one, or what stood there
+noted-at : (ns : List Note) (t : Column) (e : ℕ) → e < length t → get_or (noted ns t) e None ≡ option_or (last_note e ns) (get_or t e None)
 unfolding noted last_note
 noted-at [] t e h = refl
 noted-at (n ∷ ns) t e h =
-    let k : e < length (set t n.element (1 + n.value)) = simp length-set h in
-    noted-at ns (set t n.element (1 + n.value)) e k
-    ∙ rw (set_at t n.element (1 + n.value) e h) (later_in (last_note e ns) n.value (get_or t e 0) (eqb n.element e))
+    let k : e < length (set t n.element (Some n.value)) = simp length-set h in
+    noted-at ns (set t n.element (Some n.value)) e k
+    ∙ rw (set_at t n.element e (Some n.value) h) (or_in (last_note e ns) n.value (get_or t e None) (eqb n.element e))
 
-later_zero : (a : ℕ) → later a 0 ≡ a
-later_zero a = same_or a 0 (λ h. rw h) (λ h. later-some a 0 h)
+noted-length : (ns : List Note) (t : Column) → length (noted ns t) ≡ length t
+unfolding noted
+noted-length [] t = refl
+noted-length (n ∷ ns) t = noted-length ns (set t n.element (Some n.value)) ∙ length-set t n.element (Some n.value)
 
--- a table that was clear
-noted_clear : (ns : List Note) (n e : ℕ) → e < n → get_or (noted ns (replicate n 0)) e 0 ≡ last_note e ns
-noted_clear ns n e h =
-    noted-at ns (replicate n 0) e (rw length-replicate h) ∙ rw (get_or-replicate {A = ℕ} n e 0 0 h) (later_zero (last_note e ns))
+-- a column that was clear, of a tree that has no element past its end
+noted_clear : (ns : List Note) (n : ℕ) → ((e : ℕ) → n ≤ e → last_note e ns ≡ None) → (e : ℕ) → get_or (noted ns (replicate n None)) e None ≡ last_note e ns
+noted_clear ns n past e = low_or e n
+    (λ h. noted-at ns (replicate n None) e (rw length-replicate h) ∙ rw (get_or-replicate {A = Option ℕ} n e None None h) (or_none (last_note e ns)))
+    (λ h. get_or-eq_default (noted ns (replicate n None)) None {n = e} (omega (arith, noted-length ns (replicate n None), length-replicate {A = Option ℕ} n None)) ∙ sym (past e h))
 
-module _ (x : Side) (c : Elems) (n : ℕ) (r : Bool) (p k : List ℕ) where
-  pub tables_of : (a b : List ℕ) → a ≡ replicate n 0 → b ≡ replicate n 0 → AtSiblings x c 0 0 r a p b k → TablesOf x c n r p k
-  tables_of a b ea eb w = record {
-    answer = w.answer;
-    path_notes = λ t e h. rw (w.noting t, ea) (noted_clear _ n e h);
-    call_notes = λ t e h. rw (w.claiming t none none refl refl, eb) (noted_clear _ n e h);
-  }
+-- what the table says is in its columns
+path_column : (notes : List Noted) (e : ℕ) → path_in notes e ≡ get_or (paths_of notes) e None
+path_column [] e = refl
+path_column (n ∷ ns) zero = refl
+path_column (n ∷ ns) (suc e) = path_column ns e
 
-  -- with more behind them
-  pub tables_more : (q j : List ℕ) → length p ≡ n → length k ≡ n → TablesOf x c n r p k → TablesOf x c n r (p ++ q) (k ++ j)
-  tables_more q j hp hk w = record {
-    answer = w.answer;
-    path_notes = λ t e h. get_or-append p q 0 e (omega (arith, h, hp)) ∙ w.path_notes t e h;
-    call_notes = λ t e h. get_or-append k j 0 e (omega (arith, h, hk)) ∙ w.call_notes t e h;
-  }
+call_column : (notes : List Noted) (e : ℕ) → call_in notes e ≡ get_or (calls_of notes) e None
+call_column [] e = refl
+call_column (n ∷ ns) zero = refl
+call_column (n ∷ ns) (suc e) = call_column ns e
 
--- ---- what a number of a table says
+clear_paths : (n : ℕ) (nothing : Noted) → nothing.path ≡ None → paths_of (replicate n nothing) ≡ replicate n None
+clear_paths zero nothing h = refl
+clear_paths (suc n) nothing h = let e = clear_paths n nothing h in cc
 
-pred : (n : ℕ) → suc n - 1 ≡ n
-pred n = omega arith
+clear_calls : (n : ℕ) (nothing : Noted) → nothing.call ≡ None → calls_of (replicate n nothing) ≡ replicate n None
+clear_calls zero nothing h = refl
+clear_calls (suc n) nothing h = let e = clear_calls n nothing h in cc
 
-module _ (facts : List ℕ) where
-  pub path_is : (n : ℕ) → (n ≡ 0 → ⊥) → ResolvedTo (resolution_at facts (n - 1)) ≡ path_by facts n
-  path_is zero h = absurd (h refl)
-  path_is (suc n) h = rw (pred n)
-
-  pub call_is : (n : ℕ) → (n ≡ 0 → ⊥) → typed_by facts (resolution_at facts (path_place facts (n - 1))) (fact_index 4 (n - 1) 0 (facts_of facts)) ≡ call_by facts n
-  call_is zero h = absurd (h refl)
-  call_is (suc n) h = rw (pred n)
-
-  pub typed : (function place : ℕ) → place < length facts / 4 → TypedCall function (resolution_at facts place) ≡ typed_by facts function place
-  typed function place h = rw (length_facts facts, lt-ltb place (length facts / 4) h)
-
-  pub untyped : (function place : ℕ) → length facts / 4 ≤ place → Call function ≡ typed_by facts function place
-  untyped function place h = rw (length_facts facts, le-ltb place (length facts / 4) h)
+-- the table of a whole tree
+module _ (x : Side) (l : List ℕ) (w : WellFormed l) (nothing : Noted) (a : nothing.path ≡ None) (b : nothing.call ≡ None) (n : ℕ) (e : n ≡ length l / 3) (after : List Noted) where
+  pub notes_of : (r : Outcome) → AtSiblings x (tree l) None None r (replicate n nothing) after → IfOk r (λ _. NotesOf x (tree l) after)
+  notes_of (Err q) at = tt
+  notes_of (Ok u) at =
+      let good = was_good (is_unresolved x (tree l)) at.answer in
+      record {
+        path_notes = λ i. path_column after i ∙ rw (at.noting good, clear_paths n nothing a) (noted_clear (resolved_paths x (tree l)) n (λ j h. no_path x l j w (omega arith)) i);
+        call_notes = λ i. call_column after i ∙ rw (at.claiming good none none refl refl, clear_calls n nothing b) (noted_clear (calls x (tree l)) n (λ j h. no_call x l j w (omega arith)) i);
+      }
 
 -- ---- the facts of a tree
 
@@ -111,11 +129,5 @@ module _ (words l : List ℕ) (formed : WellFormed words) (has : HasFacts words 
   pub has_few : length l / 4 ≤ 16383
   has_few = (facts_good has.owner (tree words) has.bytes l has.good).0
 
-  all : all_facts has.owner (tree words) has.bytes l ≡ true
-  all = (facts_good has.owner (tree words) has.bytes l has.good).1
-
   pub has_low : AreLow (facts_of l)
-  has_low = list_low has.owner words has.bytes l formed has_few all
-
-  pub has_index : (index rest : List ℕ) → index ≡ index_of l → Indexed l (index ++ rest)
-  has_index index rest e = rw e (list_indexed has.owner words has.bytes l formed has_few all rest)
+  has_low = list_low has.owner words has.bytes l formed (facts_good has.owner (tree words) has.bytes l has.good).1

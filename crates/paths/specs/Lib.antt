@@ -1,4 +1,6 @@
 pub mod Names
+pub mod Qualifiers
 pub mod Steps
 pub mod Resolved
+pub mod Trees
 pub mod Tables

@@ -1,17 +1,19 @@
 -- `resolve_pattern_tree` of docs/src/src/resolving.rs: the resolved paths of a rule's tree, the calls that UFCS may match, and whether a
 -- path that must resolve has no fact.
 -- Assumes nothing.
-use Rattle.std.specs.Prelude.{ℕ, zero, suc, ◌+◌, Bool, true, false, cond, ◌&&◌, ◌||◌, List, [], ◌∷◌, ◌++◌, eqb, ltb, length}
+use Rattle.std.specs.Prelude.{ℕ, Bool, true, false, cond, ◌&&◌, ◌||◌, List, [], ◌∷◌, ◌++◌, eqb, slice_get, Option, Some, None, option_map, option_and_then, Result, Ok, Err}
+use Rattle.std.specs.Option.{option_or}
+use Rattle.errors.specs.declared.Refusal.{Refusal}
+use Rattle.errors.specs.declared.Refusal.TheVariants.{UnresolvedPath}
 use Rattle.syntax.specs.Trees.{Elems, none, token, node}
 use Rattle.syntax.specs.Accessors.{number_of, node_in}
-use Rattle.facts.specs.Facts.{facts_of, fact_index}
-use Rattle.paths.specs.Steps.{Side, resolution_at, flags_at, is_associated, path_place, step}
+use Rattle.facts.specs.declared.Call.{Call}
+use Rattle.facts.specs.declared.Sort.TheVariants.{RulePath, PatternPath}
+use Rattle.facts.specs.declared.Fact.{Fact}
+use Rattle.facts.specs.Facts.{facts_of, fact_by}
+use Rattle.paths.specs.Steps.{Side, SideTree, root_of, flags_of, flags_at, is_definition, is_associated, step}
 use Rattle.paths.specs.declared.resolving.Step.{Step}
 use Rattle.paths.specs.declared.resolving.Step.TheVariants.{Skips, Fails, Resolves, Enters}
-use Rattle.facts.specs.declared.PathAt.{PathAt}
-use Rattle.facts.specs.declared.PathAt.TheVariants.{NotResolved, ResolvedTo}
-use Rattle.facts.specs.declared.CallAt.{CallAt}
-use Rattle.facts.specs.declared.CallAt.TheVariants.{NoCall, Call, TypedCall}
 
 -- 22: "a path that must resolve has no fact"
 abbrev pub fails_at : Step → Bool → Bool
@@ -24,6 +26,10 @@ unfoldable pub is_unresolved : Side → Elems → Bool
 is_unresolved x none = false
 is_unresolved x (token i k s e r) = is_unresolved x r
 is_unresolved x (node i k s e cs r) = fails_at (step x (node i k s e cs r)) (is_unresolved x cs) || is_unresolved x r
+
+-- the answer of resolving a tree
+abbrev pub resolving : SideTree → Result SideTree Refusal
+resolving t = cond (is_unresolved t.side (root_of t)) (Err UnresolvedPath) (Ok t)
 
 -- a number noted for an element
 pub record Note : Type 0 where
@@ -63,29 +69,26 @@ claims x parent grandparent (node i k s e cs r) =
 abbrev pub calls : Side → Elems → List Note
 calls x c = claims x none none c
 
--- the last number noted for an element, and one more: "the later in the tree counts"; 0 where there is none
-abbrev pub later : ℕ → ℕ → ℕ
-later a b = cond (eqb a 0) b a
+-- the last number noted for an element: "the later in the tree counts"
+unfoldable pub last_note : ℕ → List Note → Option ℕ
+last_note e [] = None
+last_note e (n ∷ ns) = option_or (last_note e ns) (cond (eqb n.element e) (Some n.value) None)
 
-unfoldable pub last_note : ℕ → List Note → ℕ
-last_note e [] = 0
-last_note e (n ∷ ns) = later (last_note e ns) (cond (eqb n.element e) (1 + n.value) 0)
+-- the fact of an element that is a resolved path, whether that refers to a definition, and what it resolves to
+abbrev pub path_fact : Side → Elems → ℕ → Option Fact
+path_fact x c e = option_and_then (slice_get (facts_of x.facts)) (last_note e (resolved_paths x c))
 
--- what an element resolves to as a path
-abbrev pub path_by : List ℕ → ℕ → PathAt
-path_by facts zero = NotResolved
-path_by facts (suc place) = ResolvedTo (resolution_at facts place)
+abbrev pub refers_to_definition : Side → Elems → ℕ → Bool
+refers_to_definition x c e = is_definition (flags_of (path_fact x c e))
 
-abbrev pub path_at : Side → Elems → ℕ → PathAt
-path_at x c e = path_by x.facts (last_note e (resolved_paths x c))
+abbrev pub path_at : Side → Elems → ℕ → Option ℕ
+path_at x c e = option_map (λ f. f.first) (path_fact x c e)
 
--- what it is as a call: function, and the qualifier type, which the pattern path's fact of sort 4 tells, or none
-abbrev pub typed_by : List ℕ → ℕ → ℕ → CallAt
-typed_by facts function place = cond (ltb place (length (facts_of facts))) (TypedCall function (resolution_at facts place)) (Call function)
+-- what an element is as a call that a path claims: the path's function, and its qualifier type, which a fact of sort 4 tells, or none
+abbrev pub call_by : List ℕ → ℕ → Option Call
+call_by facts path =
+    option_map (λ f. record { function = f.first; qualifier = option_map (λ t. t.first) (fact_by PatternPath path 0 (facts_of facts)) })
+    (fact_by RulePath path 0 (facts_of facts))
 
-abbrev pub call_by : List ℕ → ℕ → CallAt
-call_by facts zero = NoCall
-call_by facts (suc path) = typed_by facts (resolution_at facts (path_place facts path)) (fact_index 4 path 0 (facts_of facts))
-
-abbrev pub call_at : Side → Elems → ℕ → CallAt
-call_at x c e = call_by x.facts (last_note e (calls x c))
+abbrev pub call_at : Side → Elems → ℕ → Option Call
+call_at x c e = option_and_then (call_by x.facts) (last_note e (calls x c))

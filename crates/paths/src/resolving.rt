@@ -1,18 +1,37 @@
 // `resolve` of docs/src/src/resolving.rs.
-ghost use Rattle.std.specs.Prelude.{◌≡◌, List, ℕ, ◌/◌, ◌≤◌, ◌<◌, length};
-ghost use Rattle.parsing.specs.Reading.{Var};
-ghost use Rattle.parsing.specs.Answers.{Eight, pattern_of};
-ghost use Rattle.syntax.specs.Trees.{Elems, elems, tree};
-ghost use Rattle.syntax.specs.Checks.{WellFormed};
-ghost use Rattle.facts.specs.Keys.{Indexed};
-ghost use Rattle.paths.specs.Steps.{side_of, path_place, by_fact, step, PlacedBelow};
-ghost use Rattle.paths.specs.Resolved.{claim_by};
-ghost use Rattle.paths.specs.Tables.{noted, call_number, AtElement, AtSiblings, Room, HasFacts, TablesOf};
+ghost use Rattle.std.specs.Prelude.{◌≡◌, ◌/◌, ◌≤◌, ◌<◌, cond, length, set, Some, IfSome, IfOk};
+ghost use Rattle.syntax.specs.Trees.{Elems};
+ghost use Rattle.errors.specs.Refusals.{ok, err};
+ghost use Rattle.errors.specs.declared.Refusal.TheVariants.{UnresolvedPath};
+ghost use Rattle.syntax.specs.Views.{elems_of, tree_of};
+ghost use Rattle.facts.specs.Facts.{facts_of};
+ghost use Rattle.paths.specs.Steps.{side_by, flags_at, path_place, by_fact, step, PlacedBelow};
+ghost use Rattle.paths.specs.Resolved.{is_unresolved, claim_by};
+ghost use Rattle.paths.specs.Tables.{paths_of, calls_of, noted, call_number, AtElement, AtSiblings, Within, Room, HasFacts, NotesOf};
 
-use crate::{names, tables};
-use facts::index;
+use crate::names;
+use crate::names::Qualifiers;
+use errors::Refusal;
+use facts::{Facts, Sort};
 use parsing::patterns::Pattern;
-use syntax::{accessors, parts};
+use syntax::kinds::{CALL_EXPR, Kinds, PATH};
+use syntax::parts::Part;
+use syntax::trees::Tree;
+
+// What resolving notes of an element: the place of its fact where it is a resolved path, and the path that claims it where it is a call.
+#[derive(Clone, Copy)]
+pub struct Noted {
+    pub(crate) path: Option<u16>,
+    pub(crate) call: Option<u16>,
+}
+
+impl Noted {
+    // Nothing is noted.
+    pub const NOTHING: Noted = Noted {
+        path: None,
+        call: None,
+    };
+}
 
 // What resolving does at an element.
 #[derive(Clone, Copy)]
@@ -27,214 +46,207 @@ pub enum Step {
     Enters,
 }
 
-// A path that must resolve, by its fact.
-fn step_by_fact(number: usize, facts: &[u32], index: &[u64]) -> Step
-    requires { Indexed facts.now index.now }
-    ensures value { result ≡ by_fact facts.now (path_place facts.now number) }
-    ensures placed_below { PlacedBelow (length facts.now / 4) result }
-{
-    let place = index::find(facts, index, 1, number, 0);
-    if place < facts.len() / 4 {
-        if index::value(facts, place, 2) % 2 == 1 {
-            return Step::Resolves(place);
-        }
-        return Step::Enters;
-    }
-    Step::Fails
+// A rule's tree with its own text and facts, and the placeholders of the rule's pattern with the text of their list.
+#[derive(Drop)]
+pub struct RuleTree<'a> {
+    pub tree: Tree<'a>,
+    pub code: &'a [u8],
+    pub text: &'a [u8],
+    pub pattern: &'a Pattern,
+    pub facts: Facts<'a>,
+    pub ghost few: { length (facts_of facts) ≤ 16383 },
 }
 
-// The element that a part begins with.
-pub fn step_at(
-    c: &[u32],
-    number: usize,
-    code: &[u8],
-    text: &[u8],
-    pattern: Pattern,
-    facts: &[u32],
-    index: &[u64],
-) -> Step
-    requires eight { Eight pattern }
-    requires indexed { Indexed facts.now index.now }
-    ensures value { (vs : List Var) (ns : List ℕ) → pattern ≡ pattern_of vs ns → result ≡ step (side_of text.now vs code.now facts.now) (elems number c.now) }
-    ensures placed_below { PlacedBelow (length facts.now / 4) result }
+// A CALL_EXPR by its number.
+#[tactic(auto, using(crate::proofs::StepLaws::number_in))]
+fn call_number(c: Part<'_>) -> Option<usize>
+    ensures { result ≡ call_number (elems_of c.entry) }
 {
-    if accessors::is_node_in(c, 2, 2) {
-        if names::is_self(c) {
-            return Step::Skips;
-        }
-        if names::contains_type_arguments(parts::children(c)) {
-            return Step::Enters;
-        }
-        if names::contains_placeholder(c, code, text, pattern) {
-            return Step::Enters;
-        }
-        return step_by_fact(number, facts, index);
+    if c.is_node_in(Kinds::one(CALL_EXPR)) {
+        return Some(c.number);
     }
-    Step::Enters
+    None
 }
 
-// A CALL_EXPR as one more than its number, any other element as 0.
-fn call_number(c: &[u32], number: usize) -> usize
-    requires { number < 16383 }
-    ensures { result ≡ call_number (elems number c.now) }
+// Notes the place of a resolved path's fact.
+#[tactic(auto, using(crate::proofs::TableLaws::path_set, crate::proofs::TableLaws::call_kept))]
+fn note_path(notes: &mut [Noted], path: usize, place: usize)
+    requires { (path < length notes.old) × (place < 65536) }
+    ensures notes_len_unchanged { length notes.new ≡ length notes.old }
+    ensures paths_after { paths_of notes.new ≡ set (paths_of notes.old) path (Some place) }
+    ensures calls_after { calls_of notes.new ≡ calls_of notes.old }
 {
-    if accessors::is_node_in(c, 64, 64) {
-        return number + 1;
-    }
-    0
+    notes[path].path = Some(place as u16);
 }
 
 // Notes a path for the call that is its grandparent, where its flags are those of an associated function.
-fn note_call(calls: &mut [u32], call: usize, path: usize, flags: u32)
-    requires { (call ≤ length calls.old) × (path < 16383) }
-    ensures calls_len_unchanged { length calls.new ≡ length calls.old }
-    ensures calls_after { (g : Elems) → call ≡ call_number g → calls.new ≡ noted (claim_by path flags g) calls.old }
+#[tactic(auto, using(crate::proofs::TableLaws::call_set, crate::proofs::TableLaws::path_kept))]
+fn note_call(notes: &mut [Noted], grandparent: Option<usize>, path: usize, flags: u32)
+    requires { Within grandparent (length notes.old) × (path < 65536) }
+    ensures notes_len_unchanged { length notes.new ≡ length notes.old }
+    ensures paths_after { paths_of notes.new ≡ paths_of notes.old }
+    ensures calls_after { (g : Elems) → grandparent ≡ call_number g → calls_of notes.new ≡ noted (claim_by path flags g) (calls_of notes.old) }
 {
-    if (flags / 4 % 2 == 1) & (0 < call) {
-        calls[call - 1] = (path + 1) as u32;
+    if let Some(call) = grandparent {
+        if flags / 4 % 2 == 1 {
+            notes[call].call = Some(path as u16);
+        }
     }
 }
 
-// Resolves the element that a part begins with, and what is below it.
-#[cycle(resolve_resolve_element)]
-fn resolve_element(
-    c: &[u32],
-    number: usize,
-    parent: usize,
-    grandparent: usize,
-    code: &[u8],
-    text: &[u8],
-    pattern: Pattern,
-    facts: &[u32],
-    index: &[u64],
-    paths: &mut [u32],
-    calls: &mut [u32],
-) -> bool
-    requires eight { Eight pattern × Indexed facts.now index.now }
-    requires room { Room c.now number parent grandparent paths.old calls.old × (3 ≤ length c.now) }
-    ensures paths_len_unchanged { (length paths.new ≡ length paths.old) × (length calls.new ≡ length calls.old) }
-    ensures at_element { (vs : List Var) (ns : List ℕ) → pattern ≡ pattern_of vs ns → AtElement (side_of text.now vs code.now facts.now) (elems number c.now) number parent grandparent result paths.old paths.new calls.old calls.new }
-{
-    match step_at(c, number, code, text, pattern, facts, index) {
-        Step::Skips => true,
-        Step::Fails => false,
-        Step::Resolves(place) => {
-            paths[number] = (place + 1) as u32;
-            note_call(calls, grandparent, number, index::value(facts, place, 2));
-            true
-        }
-        Step::Enters => resolve(
-            parts::children(c),
-            number + 1,
-            call_number(c, number),
-            parent,
+impl<'a> RuleTree<'a> {
+    ghost use Rattle.rust_code.specs.StandIns.{stand_in_position};
+    ghost use Rattle.parsing.specs.Vars.{vars_of};
+    ghost use Rattle.paths.specs.Names.{contains_placeholder};
+    ghost use Rattle.paths.specs.Trees.{side_of, side_tree};
+
+    // A rule's tree with the index of its facts, which is made in the first numbers of a slice.
+    #[tactic(auto, using(crate::proofs::TableLaws::has_few, crate::proofs::TableLaws::has_low, syntax::proofs::FormedLaws::formed_is, facts::proofs::FactLaws::length_facts))]
+    pub fn new(
+        tree: Tree<'a>,
+        code: &'a [u8],
+        text: &'a [u8],
+        pattern: &'a Pattern,
+        facts: &'a [u32],
+        index: &'a mut [u64],
+    ) -> RuleTree<'a>
+        requires has_facts { HasFacts tree.words.now facts.now }
+        requires index_len { length facts.now / 4 ≤ length index.old }
+        ensures { side_tree result ≡ record { side = side_by text.now (vars_of pattern.now) code.now facts.now; words = tree.entry.words.now } }
+    {
+        let facts = Facts::index(facts, index);
+        RuleTree {
+            tree,
             code,
             text,
             pattern,
             facts,
-            index,
-            paths,
-            calls,
-        ),
-    }
-}
-
-// Resolves siblings and what is below them; the parent and the grandparent are given as calls.
-#[cycle(resolve_resolve_element)]
-pub fn resolve(
-    part: &[u32],
-    number: usize,
-    parent: usize,
-    grandparent: usize,
-    code: &[u8],
-    text: &[u8],
-    pattern: Pattern,
-    facts: &[u32],
-    index: &[u64],
-    paths: &mut [u32],
-    calls: &mut [u32],
-) -> bool
-    requires eight { Eight pattern × Indexed facts.now index.now }
-    requires room { Room part.now number parent grandparent paths.old calls.old }
-    ensures paths_len_unchanged { (length paths.new ≡ length paths.old) × (length calls.new ≡ length calls.old) }
-    ensures at_siblings { (vs : List Var) (ns : List ℕ) → pattern ≡ pattern_of vs ns → AtSiblings (side_of text.now vs code.now facts.now) (elems number part.now) parent grandparent result paths.old paths.new calls.old calls.new }
-{
-    let mut c = part;
-    let mut at = number;
-    while 3 <= c.len() {
-        if resolve_element(
-            c,
-            at,
-            parent,
-            grandparent,
-            code,
-            text,
-            pattern,
-            facts,
-            index,
-            paths,
-            calls,
-        ) {
-            at += parts::span_of(c);
-            let d = parts::rest(c);
-            c = d;
-        } else {
-            return false;
         }
     }
-    true
-}
 
-// Resolves a whole tree, in tables of its own size.
-fn resolve_tree(
-    words: &[u32],
-    code: &[u8],
-    text: &[u8],
-    pattern: Pattern,
-    facts: &[u32],
-    index: &[u64],
-    paths: &mut [u32],
-    calls: &mut [u32],
-) -> bool
-    requires eight { Eight pattern × Indexed facts.now index.now }
-    requires words_len_bound { (length words.now / 3 ≤ 16383) × (length paths.old ≡ length words.now / 3) × (length calls.old ≡ length words.now / 3) }
-    ensures { (vs : List Var) (ns : List ℕ) → pattern ≡ pattern_of vs ns → TablesOf (side_of text.now vs code.now facts.now) (tree words.now) (length words.now / 3) result paths.new calls.new }
-{
-    tables::clear(paths);
-    tables::clear(calls);
-    resolve(
-        words, 0, 0, 0, code, text, pattern, facts, index, paths, calls,
-    )
-}
+    // The placeholder whose stand-in name a text is.
+    #[tactic(auto, using(crate::proofs::NameLaws::stand_in_low))]
+    pub fn find_stand_in(&self, name: &[u8]) -> Option<usize>
+        ensures value { result ≡ stand_in_position (side_of self.now).placeholders.text (side_of self.now).placeholders.vars name.now }
+        ensures low { IfSome result (λ slot. slot < 8) }
+    {
+        // `len` promises that there are eight at most.
+        let _ = self.pattern.placeholders.len();
+        rust_code::find_stand_in(self.text, self.pattern, name)
+    }
 
-// Resolves a rule's tree: makes the facts' index, and the tables of the tree's elements. False is 22.
-pub fn resolve_pattern_tree(
-    words: &[u32],
-    code: &[u8],
-    text: &[u8],
-    pattern: Pattern,
-    facts: &[u32],
-    index: &mut [u64],
-    spare: &mut [u64],
-    paths: &mut [u32],
-    calls: &mut [u32],
-) -> bool
-    requires eight { Eight pattern × WellFormed words.now × HasFacts words.now facts.now }
-    requires facts_in_bounds { (length facts.now / 4 ≤ length index.old) × (length facts.now / 4 ≤ length spare.old) × (length words.now / 3 ≤ length paths.old) × (length words.now / 3 ≤ length calls.old) }
-    ensures indexed { Indexed facts.now index.new }
-    ensures tables_of { (vs : List Var) (ns : List ℕ) → pattern ≡ pattern_of vs ns → TablesOf (side_of text.now vs code.now facts.now) (tree words.now) (length words.now / 3) result paths.new calls.new }
-{
-    let n = words.len() / 3;
-    let m = facts.len() / 4;
-    index::make_index(facts, &mut index[..m], &mut spare[..m]);
-    resolve_tree(
-        words,
-        code,
-        text,
-        pattern,
-        facts,
-        &index[..],
-        &mut paths[..n],
-        &mut calls[..n],
-    )
+    // Whether the name of the first path among siblings or of one of its qualifiers is a stand-in name.
+    #[tactic(auto, using(crate::proofs::NameLaws::placeholder_here, crate::proofs::NameLaws::placeholder_past, crate::proofs::NameLaws::placeholder_end))]
+    fn contains_placeholder(&self, siblings: Part<'_>) -> bool
+        ensures { result ≡ contains_placeholder (side_of self.now).placeholders self.now.code.now (elems_of siblings.entry) }
+    {
+        for path in (Qualifiers { siblings }) {
+            if self
+                .find_stand_in(names::name_in(path).text(self.code))
+                .is_some()
+            {
+                return true;
+            }
+        }
+        false
+    }
+
+    // The flags of the fact at a place; none where there is no such fact.
+    fn flags_at(&self, place: usize) -> u32
+        ensures { result ≡ flags_at self.now.facts place }
+    {
+        self.facts.at(place).map_or(0, |fact| fact.second)
+    }
+
+    // A path that must resolve, by its fact.
+    fn step_by_fact(&self, path: usize) -> Step
+        ensures value { result ≡ by_fact self.now.facts (path_place self.now.facts path) }
+        ensures placed_below { PlacedBelow 16383 result }
+    {
+        match self.facts.place(Sort::RulePath, path, 0) {
+            None => Step::Fails,
+            Some(place) => {
+                if self.flags_at(place) % 2 == 1 {
+                    return Step::Resolves(place);
+                }
+                Step::Enters
+            }
+        }
+    }
+
+    // The element that a part begins with.
+    #[tactic(auto, using(crate::proofs::StepLaws::step_other, crate::proofs::StepLaws::step_self, crate::proofs::StepLaws::step_arguments, crate::proofs::StepLaws::step_stand_in, crate::proofs::StepLaws::step_fact, crate::proofs::StepLaws::number_in))]
+    fn step(&self, c: Part<'_>) -> Step
+        ensures value { result ≡ step (side_of self.now) (elems_of c.entry) }
+        ensures placed_below { PlacedBelow 16383 result }
+    {
+        if !c.is_node_in(Kinds::one(PATH)) {
+            return Step::Enters;
+        }
+        if names::is_self(c) {
+            return Step::Skips;
+        }
+        if names::contains_type_arguments(c.children()) {
+            return Step::Enters;
+        }
+        if self.contains_placeholder(c) {
+            return Step::Enters;
+        }
+        self.step_by_fact(c.number)
+    }
+
+    // Resolves the element that a part begins with, and what is below it.
+    #[cycle(resolve)]
+    fn resolve_element(
+        &self,
+        c: Part<'_>,
+        parent: Option<usize>,
+        grandparent: Option<usize>,
+        notes: &mut [Noted],
+    ) -> Result<(), Refusal>
+        requires room { Room c parent grandparent notes.old × (3 ≤ length c.words.now) }
+        ensures notes_len_unchanged { length notes.new ≡ length notes.old }
+        ensures at_element { AtElement (side_of self.now) (elems_of c.entry) parent grandparent result notes.old notes.new }
+    {
+        match self.step(c) {
+            Step::Skips => Ok(()),
+            Step::Fails => Err(Refusal::UnresolvedPath),
+            Step::Resolves(place) => {
+                note_path(notes, c.number, place);
+                note_call(notes, grandparent, c.number, self.flags_at(place));
+                Ok(())
+            }
+            Step::Enters => self.resolve_siblings(c.children(), call_number(c), parent, notes),
+        }
+    }
+
+    // Resolves siblings and what is below them; the parent and the grandparent are given as calls.
+    #[cycle(resolve)]
+    fn resolve_siblings(
+        &self,
+        part: Part<'_>,
+        parent: Option<usize>,
+        grandparent: Option<usize>,
+        notes: &mut [Noted],
+    ) -> Result<(), Refusal>
+        requires room { Room part parent grandparent notes.old }
+        ensures notes_len_unchanged { length notes.new ≡ length notes.old }
+        ensures at_siblings { AtSiblings (side_of self.now) (elems_of part.entry) parent grandparent result notes.old notes.new }
+    {
+        for c in part {
+            self.resolve_element(c, parent, grandparent, notes)?;
+        }
+        Ok(())
+    }
+
+    // Notes what resolving finds at the elements of the tree.
+    pub(crate) fn lay_notes(&self, notes: &mut [Noted]) -> Result<(), Refusal>
+        requires { length notes.old ≡ length self.now.tree.words.now / 3 }
+        ensures notes_len_unchanged { length notes.new ≡ length notes.old }
+        ensures answer { result ≡ cond (is_unresolved (side_of self.now) (tree_of self.now.tree)) (err UnresolvedPath) ok }
+        ensures laid { IfOk result (λ _. NotesOf (side_of self.now) (tree_of self.now.tree) notes.new) }
+    {
+        notes.fill(Noted::NOTHING);
+        self.resolve_siblings(self.tree.root(), None, None, notes)
+    }
 }

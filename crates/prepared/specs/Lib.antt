@@ -1,3 +1,2 @@
 pub mod Placeholders
-pub mod Marks
 pub mod Rules

@@ -1,4 +1,4 @@
-// A rule made ready for matching: one word list for its pattern's elements, one value for its placeholders.
+// A rule made ready for matching: the marks of its pattern's elements, and the limits of its placeholders.
 #![tactic(auto)]
 
 pub mod marking; // marking.rt: what the rule says of its pattern's elements

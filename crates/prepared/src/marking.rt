@@ -1,100 +1,51 @@
-// Marks: what a rule says of the elements of its pattern, four words each.
-ghost use Rattle.std.specs.Prelude.{◌≡◌, true, List, ℕ, ◌+◌, ◌*◌, ◌/◌, ◌<◌, length, get_or};
-ghost use Rattle.syntax.specs.Trees.{tree};
-ghost use Rattle.syntax.specs.Checks.{WellFormed};
-ghost use Rattle.facts.specs.Keys.{Indexed};
-ghost use Rattle.parsing.specs.Reading.{Var};
-ghost use Rattle.parsing.specs.Answers.{Eight, pattern_of};
-ghost use Rattle.paths.specs.Steps.{side_of};
-ghost use Rattle.paths.specs.Resolved.{path_by, call_by};
-ghost use Rattle.paths.specs.Tables.{TablesOf};
+// Marks: what a rule says of the elements of its pattern.
+ghost use Rattle.std.specs.Prelude.{◌≡◌, ◌<◌, ◌≤◌, ◌/◌, length, ℕ, slice_get, Some, IfSome};
+ghost use Rattle.paths.specs.Steps.{root_of};
+ghost use Rattle.matcher.specs.declared.marks.Mark.{Mark};
 ghost use Rattle.prepared.specs.Placeholders.{placeholder_at};
-ghost use Rattle.prepared.specs.Rules.{Marked};
-ghost use Rattle.prepared.specs.Marks.{slot_mark, path_mark, function_mark, type_mark};
+ghost use Rattle.prepared.specs.Rules.{Says, Marked};
 
-use facts::index;
-use parsing::patterns::Pattern;
-use syntax::accessors;
-use words::{fields, slices};
+use matcher::marks::Mark;
+use paths::Resolved;
 
-// One more than the placeholder that an element is; 0 where it is none.
-fn slot_mark(words: &[u32], code: &[u8], text: &[u8], pattern: Pattern, element: usize) -> u32
-    requires { WellFormed words.now × Eight pattern × (element < 16384) }
-    ensures { (vs : List Var) (ns : List ℕ) (facts : List ℕ) → pattern ≡ pattern_of vs ns → result ≡ slot_mark (placeholder_at (side_of text.now vs code.now facts) (tree words.now) element) }
+// The placeholder that an element is.
+fn placeholder_at(resolved: &Resolved<'_>, element: usize) -> Option<usize>
+    ensures value { result ≡ placeholder_at resolved.now.side (root_of resolved.now) element }
+    ensures low { IfSome result (λ slot. slot < 8) }
 {
-    let ident = accessors::only_ident(accessors::element(words, element));
-    let at = accessors::range_of(ident);
-    let slot = rust_code::find_stand_in(text, pattern, slices::part_of(code, at.start, at.end));
-    if slot < pattern.count {
-        return (slot + 1) as u32;
-    }
-    0
+    let ident = resolved.tree().element(element).only_ident();
+    resolved.find_stand_in(ident.text(resolved.code()))
 }
 
-// One more than what an element resolves to as a path; 0 where it is not resolved.
-fn path_mark(paths: &[u32], facts: &[u32], element: usize) -> u32
-    ensures { result ≡ path_mark (path_by facts.now (get_or paths.now element 0)) }
+// What the rule says of an element.
+#[tactic(auto, using(crate::proofs::MarkLaws::path_low, crate::proofs::MarkLaws::call_low))]
+fn mark_of(resolved: &Resolved<'_>, element: usize) -> Mark
+    ensures { Says resolved.now.side (root_of resolved.now) element result }
 {
-    let noted = fields::word(paths, element);
-    if noted == 0 {
-        return 0;
-    }
-    index::value(facts, (noted - 1) as usize, 1) + 1
+    Mark::new(
+        placeholder_at(resolved, element),
+        resolved.path_at(element),
+        resolved.call_at(element),
+    )
 }
 
-// One more than the function of an element as a call; 0 where it is none.
-fn function_mark(calls: &[u32], facts: &[u32], index: &[u64], element: usize) -> u32
-    requires { Indexed facts.now index.now }
-    ensures { result ≡ function_mark (call_by facts.now (get_or calls.now element 0)) }
-{
-    let noted = fields::word(calls, element);
-    if noted == 0 {
-        return 0;
-    }
-    let place = index::find(facts, index, 1, (noted - 1) as usize, 0);
-    index::value(facts, place, 1) + 1
-}
-
-// One more than its qualifier type; 0 where it has none.
-fn type_mark(calls: &[u32], facts: &[u32], index: &[u64], element: usize) -> u32
-    requires { Indexed facts.now index.now }
-    ensures { result ≡ type_mark (call_by facts.now (get_or calls.now element 0)) }
-{
-    let noted = fields::word(calls, element);
-    if noted == 0 {
-        return 0;
-    }
-    let place = index::find(facts, index, 4, (noted - 1) as usize, 0);
-    if place < facts.len() / 4 {
-        return index::value(facts, place, 1) + 1;
-    }
-    0
-}
-
-// Marks the elements of a pattern that was resolved; there is room for all of them and no more.
-pub fn mark_pattern(
-    words: &[u32],
-    code: &[u8],
-    text: &[u8],
-    pattern: Pattern,
-    facts: &[u32],
-    index: &[u64],
-    paths: &[u32],
-    calls: &[u32],
-    marks: &mut [u32],
-)
-    requires well_formed { WellFormed words.now × Eight pattern × Indexed facts.now index.now }
-    requires marks_len { length marks.old ≡ 4 * (length words.now / 3) }
+// Marks the elements of a resolved pattern, one after the other.
+fn lay_marks(resolved: &Resolved<'_>, marks: &mut [Mark])
+    requires { length marks.old ≡ length resolved.now.words / 3 }
     ensures marks_len_unchanged { length marks.new ≡ length marks.old }
-    ensures marked { (vs : List Var) (ns : List ℕ) → pattern ≡ pattern_of vs ns → TablesOf (side_of text.now vs code.now facts.now) (tree words.now) (length words.now / 3) true paths.now calls.now → Marked (side_of text.now vs code.now facts.now) (tree words.now) marks.new }
+    ensures says { (e : ℕ) (m : Mark) → slice_get marks.new e ≡ Some m → Says resolved.now.side (root_of resolved.now) e m }
 {
-    let n = words.len() / 3;
-    let mut e: usize = 0;
-    while e < n {
-        marks[4 * e] = slot_mark(words, code, text, pattern, e);
-        marks[4 * e + 1] = path_mark(paths, facts, e);
-        marks[4 * e + 2] = function_mark(calls, facts, index, e);
-        marks[4 * e + 3] = type_mark(calls, facts, index, e);
-        e += 1;
+    for (element, mark) in marks.iter_mut().enumerate() {
+        *mark = mark_of(resolved, element);
     }
+}
+
+// The marks of a resolved pattern, in the first of a slice, one for each element.
+pub fn mark_pattern<'m>(resolved: &Resolved<'_>, marks: &'m mut [Mark]) -> &'m [Mark]
+    requires { length resolved.now.words / 3 ≤ length marks.old }
+    ensures { Marked resolved.now.side (root_of resolved.now) result.now }
+{
+    let n = resolved.tree().len();
+    lay_marks(resolved, &mut marks[..n]);
+    &marks[..n]
 }

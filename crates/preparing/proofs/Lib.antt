@@ -1,2 +1,2 @@
--- Laws of the definitions of specs/, for this crate and those above.
+-- Laws of the definitions of specs/, for this crate and those above it.
 pub mod ReadyLaws

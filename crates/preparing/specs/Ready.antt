@@ -1,30 +1,32 @@
--- What the functions below the operation leave and ask for: a rule made ready, in tables that are lent.
+-- The matcher of a rule and a file, and what a rule made ready has of it.
 -- Assumes nothing.
-use Rattle.std.specs.Prelude.{ℕ, ◌*◌, ◌/◌, ◌<◌, ◌≤◌, true, List, length}
-use Rattle.syntax.specs.Checks.{WellFormed}
-use Rattle.facts.specs.Keys.{Indexed}
-use Rattle.fragments.specs.Pairs.{Pair, tree_of, facts_of}
-use Rattle.rules.specs.declared.numbering.Rule.{Rule}
-use Rattle.paths.specs.Tables.{TablesOf}
-use Rattle.rule_paths.specs.RulePaths.{side_at}
-use Rattle.matcher.specs.declared.marks.Context.{Context}
+use Rattle.std.specs.Prelude.{ℕ, ◌≡◌, List, Option, option_map}
+use Rattle.syntax.specs.Trees.{Elems, tree}
+use Rattle.fragments.specs.declared.forms.Side.TheVariants as side
+use Rattle.fragments.specs.declared.forms.Form.{Form}
+use Rattle.fragments.specs.Pairs.{Pair, code_of, tree_of}
+use Rattle.paths.specs.Steps.{SideTree}
+use Rattle.rule_paths.specs.RulePaths.{pattern_vars, side_at, tree_at, template_form}
+use Rattle.rule_paths.specs.Needs.{PairedRule}
+use Rattle.matcher.specs.declared.marks.Mark.{Mark}
+use Rattle.matcher.specs.declared.marks.Limit.{Limit}
+use Rattle.matcher.specs.Matcher.{Matcher}
 use Rattle.matcher.specs.Tokens.{comma_sheet}
-use Rattle.prepared.specs.Rules.{Marked, Limited}
-use Rattle.preparing.specs.Forms.{root_of, template_form}
+use Rattle.prepared.specs.Rules.{Marked, Limited, matcher_for}
+use Rattle.checks.specs.Given.{File}
 
--- the template's tree of a form was resolved: the table of its paths, and the index of its facts
-pub record Resolved (p : Pair) (form : ℕ) (paths index : List ℕ) : Type 0 where
-  pub calls : List ℕ
-  pub tables : TablesOf (side_at p 1 form) (root_of p 1 form) (length (tree_of 1 form p) / 3) true paths calls
-  pub indexed : Indexed (facts_of 1 form p) index
+-- the tree of a form's pattern
+abbrev pub pattern_root : Pair → Form → Elems
+pattern_root p form = tree (tree_of side.Pattern form p)
+
+-- the matcher of a form's rule
+abbrev pub form_matcher : Pair → Form → File → Matcher
+form_matcher p form f = matcher_for (side_at p side.Pattern form) (pattern_root p form) f.text (tree f.words) f.facts comma_sheet
 
 -- the pattern has its marks, its placeholders their limits, and the template, if there is one, was resolved
-pub record Ready (p : Pair) (r : Rule) (marks paths index : List ℕ) (cx : Context) : Type 0 where
-  pub formed : WellFormed (tree_of 0 r.form p)
-  pub marked : Marked (side_at p 0 r.form) (root_of p 0 r.form) marks
-  pub limited : Limited (side_at p 0 r.form) comma_sheet cx
-  pub resolved : template_form r.form r.template < 5 → Resolved p (template_form r.form r.template) paths index
-
--- there is room for the marks of any tree in words
-abbrev pub MarksRoomy : List ℕ → List ℕ → Type 0
-MarksRoomy words marks = (k : ℕ) → k * 3 ≤ length words → k ≤ 16383 → k * 4 ≤ length marks
+pub record Ready (x : PairedRule) (pattern code : List ℕ) (marks : List Mark) (limits : List Limit) (template : Option SideTree) : Type 0 where
+  pub pattern_is : pattern ≡ tree_of side.Pattern x.rule.form x.pair
+  pub code_is : code ≡ code_of side.Pattern x.pair
+  pub marked : Marked (side_at x.pair side.Pattern x.rule.form) (pattern_root x.pair x.rule.form) marks
+  pub limited : Limited (pattern_vars x.pair) limits
+  pub template_is : template ≡ option_map (tree_at x.pair side.Template) (template_form x.rule.form x.rule.template)

@@ -1,55 +1,55 @@
--- What the functions that make a template ready leave and ask for: its table of numbers, as `rows` reads it.
+-- What the functions that make a template ready leave and ask for: its pieces, told in a module.
 -- Assumes nothing.
-use Rattle.std.specs.Prelude.{ℕ, ◌+◌, ◌*◌, ◌≤◌, ◌≡◌, Bool, true, false, cond, ◌&&◌, List, eqb, ltb, length, take}
-use Rattle.fragments.specs.Pairs.{Pair, pair_at, code_of}
-use Rattle.rules.specs.declared.numbering.Found.{Found}
-use Rattle.rules.specs.declared.numbering.Found.TheVariants.{NoSuchRule, At}
-use Rattle.matcher.specs.FileFacts.{fact_value}
-use Rattle.checks.specs.Given.{Rules, found_rule}
-use Rattle.preparing.specs.Forms.{template_form}
-use Rattle.templates.specs.Pieces.{element_in}
-use Rattle.rows.specs.Told.{fragments_of}
-use Rattle.readying.specs.declared.Template.{Template}
-use Rattle.readying.specs.Templates.{template_fragments, rule_fragments, rule_kind}
+use Rattle.std.specs.Prelude.{ℕ, ◌≤◌, ◌<◌, ◌≡◌, Bool, false, ◌&&◌, eqb, List, map, length, take, Option, Some, None, slice_get}
+use Rattle.std.specs.List.{AllByRecursion}
+use Rattle.words.specs.Texts.{part}
+use Rattle.facts.specs.declared.Sort.TheVariants.{TemplatePath}
+use Rattle.facts.specs.Facts.{facts_of, place_of}
+use Rattle.paths.specs.Steps.{SideTree}
+use Rattle.checks.specs.declared.Rules.{Rules}
+use Rattle.checks.specs.Given.{found_rule}
+use Rattle.templates.specs.declared.Piece.{Piece}
+use Rattle.templates.specs.declared.Piece.TheVariants.{Text, Path, Hole}
+use Rattle.rendering.specs.Texts.{Fragment, fixed, captured}
+use Rattle.readying.specs.declared.ReadyTemplate.{ReadyTemplate}
+use Rattle.readying.specs.Templates.{fact_text_of, found_template, tree_fragments, tree_kind}
 
--- the number of a piece as it is told in a module: a path's is the length of its text times 2 ^ 28 and its start, above 2 ^ 57; another's stays
-unfoldable pub told_in : List ℕ → ℕ → ℕ → ℕ
-told_in facts «module» n =
-    cond (ltb n 144115188075855872) n
-    (144115188075855872 + (fact_value facts 7 (element_in n) «module» 3 * 268435456 + fact_value facts 7 (element_in n) «module» 2))
+-- a piece as it is told in a module: a path by the place of its fact; one without a fact has no text
+abbrev pub placed : Option ℕ → Piece
+placed None = Text 0 0
+placed (Some place) = Path place
 
--- the first numbers of a table tell a form's template in a module, over any fact text
-pub record Tells (p : Pair) (form «module» count : ℕ) (table : List ℕ) : Type 0 where
-  pub few : count ≤ 16384
-  pub within : count ≤ length table
-  pub are : (fact_text : List ℕ) → fragments_of (code_of 1 p) fact_text (take count table) ≡ template_fragments fact_text p form «module»
+abbrev pub told : List ℕ → ℕ → Piece → Piece
+told facts «module» (Text s e) = Text s e
+told facts «module» (Path e) = placed (place_of TemplatePath e «module» (facts_of facts))
+told facts «module» (Hole slot is_receiver) = Hole slot is_receiver
 
--- the pair of the rule that was found, and the form of its template's tree; 5 where there is none
-abbrev pub rule_pair : Found → ℕ
-rule_pair NoSuchRule = 0
-rule_pair (At r) = r.pair
+-- what a told piece says
+abbrev pub told_fragment : List ℕ → List ℕ → List ℕ → Piece → Fragment
+told_fragment fact_text code facts (Text s e) = fixed (part code s e)
+told_fragment fact_text code facts (Path place) = fixed (fact_text_of fact_text (slice_get (facts_of facts) place))
+told_fragment fact_text code facts (Hole slot is_receiver) = captured slot is_receiver
 
-abbrev pub rule_form : Found → ℕ
-rule_form NoSuchRule = 5
-rule_form (At r) = template_form r.form r.template
+-- a placeholder is one of eight
+abbrev pub IsLow : Piece → Type 0
+IsLow (Text s e) = Unit {0}
+IsLow (Path place) = Unit {0}
+IsLow (Hole slot is_receiver) = slot < 8
 
--- a template that is ready for no rule
-abbrev pub no_template : Template
-no_template = record { ready = false; rule = 0; «module» = 0; pair = 0; count = 0; kind = 0 }
+-- the first pieces of a table tell a template's tree in a module, over any fact text
+pub record Tells (t : Option SideTree) («module» : ℕ) (made : ReadyTemplate) (table : List Piece) : Type 0 where
+  pub kind : made.kind ≡ tree_kind t
+  pub within : made.count ≤ length table
+  pub low : AllByRecursion IsLow (take made.count table)
+  pub fragments : (fact_text : List ℕ) → map (told_fragment fact_text made.code.now made.facts.now) (take made.count table) ≡ tree_fragments fact_text t «module»
 
--- a template is ready for the rule of a number in a module: its table tells the rule's template
-pub record TemplateOf (q : Rules) (number «module» : ℕ) (t : Template) (table : List ℕ) : Type 0 where
-  pub ready : t.ready ≡ true
-  pub rule : t.rule ≡ number
-  pub module_is : t.«module» ≡ «module»
-  pub pair : t.pair ≡ rule_pair (found_rule q number)
-  pub kind : t.kind ≡ rule_kind q (found_rule q number)
-  pub few : t.count ≤ 16384
-  pub within : t.count ≤ length table
-  pub fragments : (fact_text : List ℕ)
-      → fragments_of (code_of 1 (pair_at t.pair q.directory q.words q.bytes)) fact_text (take t.count table)
-      ≡ rule_fragments fact_text q (found_rule q number) «module»
+-- a template is ready for the rule of a number in a module
+pub record TemplateOf (q : Rules) (number «module» : ℕ) (made : ReadyTemplate) (table : List Piece) : Type 0 where
+  pub rule : made.rule ≡ number
+  pub module_is : made.«module» ≡ «module»
+  pub tells : Tells (found_template q (found_rule q number)) «module» made table
 
--- it says that it is
-abbrev pub is_ready_for : Template → ℕ → ℕ → Bool
-is_ready_for t number «module» = t.ready && eqb t.rule number && eqb t.«module» «module»
+-- the one at hand says that it is
+abbrev pub is_ready_for : Option ReadyTemplate → ℕ → ℕ → Bool
+is_ready_for None number «module» = false
+is_ready_for (Some t) number «module» = eqb t.rule number && eqb t.«module» «module»

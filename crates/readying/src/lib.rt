@@ -1,136 +1,117 @@
-// A rule's template made ready for rendering: a table of numbers that tells its fragments in a module.
+// A rule's template made ready for rendering: its pieces, told in a module.
 #![tactic(auto)]
 
-pub mod telling; // telling.rt: paths as ranges of the fact text
+pub mod reading; // reading.rt: the fragments of a template that is ready
+pub mod telling; // telling.rt: paths by the places of their facts
 
-ghost use Rattle.std.specs.Prelude.{◌≡◌, true, false, map, ◌≤◌, ◌<◌};
+ghost use Rattle.std.specs.Prelude.{◌≡◌, true, false, map, ◌/◌, ◌≤◌, length, take, IfSome, is_some, Some};
 ghost use Rattle.errors.specs.Refusals.{ok};
-ghost use Rattle.syntax.specs.Trees.{tree};
-ghost use Rattle.fragments.specs.Pairs.{pair_of, pairs, is_present};
-ghost use Rattle.rules.specs.declared.stages.Stage.TheVariants.{TreesWithFacts};
+ghost use Rattle.fragments.specs.Pairs.{pairs_in};
 ghost use Rattle.rules.specs.Forms.{any};
-ghost use Rattle.rules.specs.Stages.{stage_outcome};
-ghost use Rattle.rule_paths.specs.RulePaths.{tree_fails, pair_fails};
-ghost use Rattle.rule_paths.specs.Needs.{Passed, AllRoomy};
-ghost use Rattle.checks.specs.Given.{rules_of, found_rule};
-ghost use Rattle.readying.specs.Templates.{kind_of};
-ghost use Rattle.readying.specs.Ready.{Tells, rule_form, no_template, TemplateOf, is_ready_for};
+ghost use Rattle.rule_paths.specs.RulePaths.{pair_fails};
+ghost use Rattle.checks.specs.Given.{rule_trees, found_rule};
+ghost use Rattle.syntax.specs.Checks.{is_well_formed};
+ghost use Rattle.syntax.specs.Siblings.{kind_of};
+ghost use Rattle.paths.specs.Steps.{root_of};
+ghost use Rattle.templates.specs.Pieces as templates;
+ghost use Rattle.readying.specs.Templates.{rule_template, found_template};
+ghost use Rattle.readying.specs.Ready.{told, Tells, TemplateOf, is_ready_for};
 
-use fragments::pairs;
-use parsing::patterns;
-use rules::numbering;
-use rules::numbering::Found;
-use templates::rendering::template_pieces;
-use words::fields;
+use fragments::forms::Side;
+use paths::Resolved;
+use rule_paths::passed::template_form;
+use rule_paths::{ResolvedRule, ResolvedRules, Tables};
+use templates::Piece;
+use templates::rendering::render_template;
 
-// A template: whether it is ready, for which rule in which module, the rule's pair, how many numbers tell it, and its root's kind.
+// A template that is ready: for which rule in which module, its root's kind, how many pieces it has, and the code and the facts that these speak of.
 #[derive(Clone, Copy)]
-pub struct Template {
-    pub ready: bool,
+pub struct ReadyTemplate<'a> {
     pub rule: usize,
     pub module: u32,
-    pub pair: usize,
-    pub count: usize,
     pub kind: u32,
+    pub count: usize,
+    pub code: &'a [u8],
+    pub facts: &'a [u32],
 }
 
-// A template that is not ready.
-pub fn no_template() -> Template
-    ensures { result ≡ no_template }
+// Lays the pieces of a template and tells them in a module; how many these are.
+fn lay_pieces(resolved: &Resolved<'_>, module: u32, pieces: &mut [Piece]) -> usize
+    requires few { length resolved.now.side.facts / 4 ≤ 16383 }
+    requires room { length resolved.now.words / 3 ≤ length pieces.old }
+    ensures within { (length pieces.new ≡ length pieces.old) × (result ≤ length pieces.new) }
+    ensures laid { take result pieces.new ≡ map (told resolved.now.side.facts «module») (templates.pieces resolved.now.side (root_of resolved.now)) }
 {
-    Template {
-        ready: false,
-        rule: 0,
-        module: 0,
-        pair: 0,
-        count: 0,
-        kind: 0,
-    }
-}
-
-// The kind of a tree's root.
-fn root_kind(words: &[u32]) -> u32
-    ensures { result ≡ kind_of (tree words.now) }
-{
-    if 3 <= words.len() {
-        return fields::syntax_kind(words);
-    }
-    0
-}
-
-// Tells the template of a form, whose tree resolves; how many numbers tell it.
-fn ready_pieces(
-    row: &[u32],
-    words: &[u32],
-    bytes: &[u8],
-    form: usize,
-    module: u32,
-    index: &mut [u64],
-    spare: &mut [u64],
-    paths: &mut [u32],
-    calls: &mut [u32],
-) -> usize
-    requires form_bound { (form ≤ 4) × Passed (pair_of row.now words.now bytes.now) × AllRoomy words.now index.old spare.old paths.old calls.old }
-    requires bytes_value { (is_present 1 form (pair_of row.now words.now bytes.now) ≡ true) × (tree_fails (pair_of row.now words.now bytes.now) 1 form ≡ false) }
-    ensures { Tells (pair_of row.now words.now bytes.now) form «module» result spare.new }
-{
-    let text = pairs::text(row, bytes, 0);
-    let parsed = patterns::parse_pattern(pairs::list(row, words, 0), text);
-    let pattern = parsed.pattern;
-    rule_paths::resolve_side(
-        row, words, bytes, pattern, 1, form, index, spare, paths, calls,
-    );
-    let tree = pairs::tree(row, words, 1, form);
-    let code = pairs::code(row, bytes, 1);
-    let facts = pairs::facts(row, words, 1, form);
-    let count = template_pieces(tree, code, text, pattern, facts, paths, spare);
-    telling::tell_paths(facts, index, module, &mut spare[..count]);
+    let count = render_template(resolved, pieces);
+    telling::tell_paths(resolved.facts(), module, &mut pieces[..count]);
     count
 }
 
-// Makes the template of a rule ready in a module, unless the one at hand is.
-pub fn make_ready(
-    directory: &[u32],
-    words: &[u32],
-    bytes: &[u8],
-    fact_bytes: usize,
+// The kind of a template's root.
+fn root_kind(resolved: &Resolved<'_>) -> u32
+    ensures value { result ≡ kind_of (root_of resolved.now) }
+    ensures formed { is_well_formed resolved.now.words ≡ true }
+{
+    resolved.tree().root().kind()
+}
+
+// Makes the template of a rule ready in a module.
+fn ready_rule<'a, const N: usize>(
+    rule: &ResolvedRule<'a, N>,
     number: usize,
     module: u32,
-    was: Template,
-    index: &mut [u64],
-    spare: &mut [u64],
-    paths: &mut [u32],
-    calls: &mut [u32],
-) -> Template
-    requires bytes_value { (stage_outcome TreesWithFacts fact_bytes (pairs directory.now words.now bytes.now) ≡ ok) × (any (map pair_fails (pairs directory.now words.now bytes.now)) ≡ false) }
-    requires all_roomy { AllRoomy words.now index.old spare.old paths.old calls.old × (rule_form (found_rule (rules_of directory.now words.now bytes.now fact_bytes) number) < 5) }
-    requires template_of { was.ready ≡ true → TemplateOf (rules_of directory.now words.now bytes.now fact_bytes) was.rule was.«module» was spare.old }
-    ensures template_of_2 { TemplateOf (rules_of directory.now words.now bytes.now fact_bytes) number «module» result spare.new }
-    ensures value { is_ready_for was number «module» ≡ true → (result ≡ was) × (index.new ≡ index.old) × (spare.new ≡ spare.old) × (paths.new ≡ paths.old) × (calls.new ≡ calls.old) }
+    tables: &mut Tables<N>,
+    pieces: &mut [Piece],
+) -> ReadyTemplate<'a>
+    requires few { IfSome (rule_template rule.now) (λ t. length t.side.facts / 4 ≤ 16383) }
+    requires there { is_some (rule_template rule.now) ≡ true }
+    requires room { N ≤ length pieces.old }
+    ensures length_unchanged { length pieces.new ≡ length pieces.old }
+    ensures of_rule { (result.rule ≡ number) × (result.«module» ≡ «module») }
+    ensures tells { Tells (rule_template rule.now) «module» result pieces.new }
 {
-    if was.ready & (was.rule == number) & (was.module == module) {
-        return was;
+    // `len` promises that there are eight at most.
+    let _ = rule.pattern().placeholders.len();
+    let own = rule.rule();
+    let form = template_form(own.form, own.template).unwrap();
+    let code = rule.pair().code(Side::Template);
+    let facts = rule.pair().facts(Side::Template, form);
+    let resolved = rule.resolve_template(tables).unwrap();
+    let kind = root_kind(&resolved);
+    let count = lay_pieces(&resolved, module, pieces);
+    ReadyTemplate {
+        rule: number,
+        module,
+        kind,
+        count,
+        code,
+        facts,
     }
-    match numbering::rule_at(directory, words, bytes, number) {
-        Found::NoSuchRule => was,
-        Found::At(rule) => {
-            let pair = rule.pair;
-            let own = rule.form;
-            let template = rule.template;
-            let form = preparing::template_form(own, template);
-            let row = pairs::row_at(directory, pair);
-            let w = pairs::words_at(directory, words, pair);
-            let b = pairs::bytes_at(directory, bytes, pair);
-            let count = ready_pieces(row, w, b, form, module, index, spare, paths, calls);
-            let kind = root_kind(pairs::tree(row, w, 1, form));
-            Template {
-                ready: true,
-                rule: number,
-                module,
-                pair,
-                count,
-                kind,
-            }
+}
+
+// Makes the template of a rule ready in a module, unless the one at hand is.
+#[tactic(auto, using(crate::proofs::TellingLaws::few_facts, crate::proofs::TellingLaws::template_is, crate::proofs::TellingLaws::rule_is_there))]
+pub fn make_ready<'a, const N: usize>(
+    rules: &ResolvedRules<'a, N>,
+    number: usize,
+    module: u32,
+    was: Option<ReadyTemplate<'a>>,
+    tables: &mut Tables<N>,
+    pieces: &mut [Piece],
+) -> ReadyTemplate<'a>
+    requires passed { (rule_trees rules.now ≡ ok) × (any (map pair_fails (pairs_in rules.now.pairs)) ≡ false) }
+    requires there { is_some (found_template rules.now (found_rule rules.now number)) ≡ true }
+    requires room { N ≤ length pieces.old }
+    requires at_hand { IfSome was (λ t. TemplateOf rules.now t.rule t.«module» t pieces.old) }
+    ensures length_unchanged { length pieces.new ≡ length pieces.old }
+    ensures ready { TemplateOf rules.now number «module» result pieces.new }
+    ensures kept { is_ready_for was.entry number «module» ≡ true → (Some result ≡ was.entry) × (pieces.new ≡ pieces.old) × (tables.new ≡ tables.old) }
+{
+    if let Some(t) = was {
+        if (t.rule == number) & (t.module == module) {
+            return t;
         }
     }
+    let rule = rules.rule(number).unwrap();
+    ready_rule(&rule, number, module, tables, pieces)
 }

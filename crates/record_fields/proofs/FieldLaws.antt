@@ -1,119 +1,92 @@
--- Laws of record fields by name: each definition over siblings by its first one and the rest, and where a part has none.
+-- Laws of record fields by name: each definition over siblings at its first one, at the rest, and where there is none.
 -- Assumes nothing.
 use mathlib.Core.Path.{◌≡◌, refl, sym, ap, ◌∙◌}
-use mathlib.Core.Bool.{Bool, true, false, cond, ◌&&◌, ◌||◌, false≢true}
+use mathlib.Core.Bool.{true, false, cond, ◌&&◌, ◌||◌, false≢true}
 use mathlib.Core.List.{List}
-use Prim.Native.Nat.{ℕ, ◌+◌, ◌*◌, ◌≤◌, ◌<◌}
-use native.Mathlib.Omega.{arith}
-use lib.Dec.{leb, ltb}
-use lib.ListN.{length, drop}
-use lib.Seq.{drop-drop}
-use borrow.Author.Tests.{lt-ltb, le-ltb, le-leb, leb-false}
-use Rattle.words.proofs.TestLaws.{low_or}
-use Rattle.syntax.specs.Trees.{Elems, none, token, node, elems}
+use Prim.Native.Nat.{ℕ, ◌≤◌, ◌<◌}
+use lib.Dec.{ltb}
+use borrow.Author.Tests.{lt-ltb, le-ltb}
+use Rattle.syntax.specs.Trees.{Elems, none, token, node}
 use Rattle.syntax.specs.Accessors.{rest, number_of, text_of, some, node_in, or_else}
-use Rattle.syntax.proofs.TreeLaws.{elems_end}
-use Rattle.syntax.proofs.AccessorLaws.{some_is, number_is}
-use Rattle.siblings.specs.Siblings.{kind_of}
-use Rattle.siblings.proofs.SiblingLaws.{long_some}
-use Rattle.matcher.specs.Tokens.{same_name}
-use Rattle.record_fields.specs.Fields.{pattern_name, has_name, is_named, is_taken, is_field, last_field, is_asked, are_asked}
+use Rattle.syntax.specs.Siblings.{kind_of}
+use Rattle.syntax.specs.Views.{elems_of}
+use Rattle.syntax.specs.declared.parts.Part.{Part}
+use Rattle.syntax.proofs.AccessorLaws.{no_sibling}
+use Rattle.matcher.specs.Matcher.{Matcher}
+use Rattle.matcher.proofs.PlaceholderLaws.{number_of_part}
+use Rattle.record_fields.specs.Fields.{pattern_name, has_name, is_named, is_taken, is_free, is_field, last_field, is_asked, are_asked}
 
--- a part of three words has an element
-pub some_long : (i : ℕ) (l : List ℕ) → 3 ≤ length l → some (elems i l) ≡ true
-some_long i l h = some_is i l ∙ le-leb 3 (length l) h
+-- a field, and an element that has a name, are elements, of their part's number
+node_some : (low high : ℕ) (c : Elems) → node_in low high c ≡ true → some c ≡ true
+node_some low high none h = absurd (false≢true h)
+node_some low high (token i k s e r) h = refl
+node_some low high (node i k s e cs r) h = refl
 
--- a part that begins with a node of some kinds has its three words
-field-some : (low high : ℕ) (c : Elems) → node_in low high c ≡ true → some c ≡ true
-field-some low high none h = absurd (false≢true h)
-field-some low high (token i k s e r) h = refl
-field-some low high (node i k s e cs r) h = refl
+pub field_number : (c : Part) → node_in 9 9 (elems_of c) ≡ true → number_of (elems_of c) ≡ c.number
+field_number c h = number_of_part c (node_some 9 9 (elems_of c) h)
 
-pub field_long : (i : ℕ) (l : List ℕ) → node_in 9 9 (elems i l) ≡ true → 3 ≤ length l
-field_long i l h = long_some i l (field-some 9 9 (elems i l) h)
+name_some : (c : Elems) → some (pattern_name c) ≡ true → some c ≡ true
+name_some none h = absurd (false≢true h)
+name_some (token i k s e r) h = refl
+name_some (node i k s e cs r) h = refl
 
--- and so has one that begins with an element that has a name
-name-some : (c : Elems) → some (pattern_name c) ≡ true → some c ≡ true
-name-some none h = absurd (false≢true h)
-name-some (token i k s e r) h = refl
-name-some (node i k s e cs r) h = refl
-
-pub name_long : (i : ℕ) (l : List ℕ) → some (pattern_name (elems i l)) ≡ true → 3 ≤ length l
-name_long i l h = long_some i l (name-some (elems i l) h)
-
--- passing the first of what is left behind some elements
-pub passed : (w c d : List ℕ) (at n : ℕ) → c ≡ drop (at * 3) w → d ≡ drop (n * 3) c → d ≡ drop ((at + n) * 3) w
-passed w c d at n e f =
-    let q : at * 3 + n * 3 ≡ (at + n) * 3 = omega arith in
-    f ∙ ap (drop (n * 3)) e ∙ drop-drop (n * 3) (at * 3) w ∙ ap (λ (x : ℕ). drop x w) q
-
-pub passed_rest : (i at n : ℕ) (c d : List ℕ) → d ≡ drop (n * 3) c → elems (i + at + n) (drop (n * 3) c) ≡ rest (elems (i + at) c) → rest (elems (i + at) c) ≡ elems (i + (at + n)) d
-passed_rest i at n c d e f =
-    let q : i + (at + n) ≡ i + at + n = omega arith in
-    rw (q, e) (sym f)
-
--- whether a name is the same as an element's, by the element's kind and text
-module _ (code : List ℕ) (p : Elems) (kind : ℕ) (own : List ℕ) (s : some p ≡ true) (a : kind ≡ kind_of p) (b : own ≡ text_of code p) (k : ℕ) (t : List ℕ) where
-  pub same_left : same_name kind own k t ≡ (some p && same_name (kind_of p) (text_of code p) k t)
-  same_left =
-      ap (λ (x : ℕ). same_name x own k t) a ∙ ap (λ (x : List ℕ). same_name (kind_of p) x k t) b
-      ∙ sym (ap (λ (x : Bool). x && same_name (kind_of p) (text_of code p) k t) s)
-
-  pub same_right : same_name k t kind own ≡ (some p && same_name k t (kind_of p) (text_of code p))
-  same_right =
-      ap (λ (x : ℕ). same_name k t x own) a ∙ ap (λ (x : List ℕ). same_name k t (kind_of p) x) b
-      ∙ sym (ap (λ (x : Bool). x && same_name k t (kind_of p) (text_of code p)) s)
+name_number : (q : Part) → some (pattern_name (elems_of q)) ≡ true → number_of (elems_of q) ≡ q.number
+name_number q h = number_of_part q (name_some (elems_of q) h)
 
 -- ---- one of the pattern's siblings has a name
 
-module _ (code : List ℕ) (k : ℕ) (t : List ℕ) where
-  named_first : (c : Elems) → is_named code k t c ≡ (has_name code k t c || is_named code k t (rest c))
+module _ (x : Matcher) (k : ℕ) (t : List ℕ) where
+  named_first : (c : Elems) → is_named x k t c ≡ (has_name x k t c || is_named x k t (rest c))
   unfolding is_named
   named_first none = refl
   named_first (token i k' s e r) = refl
   named_first (node i k' s e cs r) = refl
 
-  pub named_here : (c : Elems) (b : Bool) → b ≡ has_name code k t c → b ≡ true → is_named code k t c ≡ true
-  named_here c b e h = named_first c ∙ ap (λ (x : Bool). x || is_named code k t (rest c)) (sym e ∙ h)
+  pub named_here : (c : Elems) → has_name x k t c ≡ true → is_named x k t c ≡ true
+  named_here c h = rw (named_first c, h)
 
-  pub named_next : (c : Elems) (b : Bool) → b ≡ has_name code k t c → b ≡ false → is_named code k t c ≡ is_named code k t (rest c)
-  named_next c b e h = named_first c ∙ ap (λ (x : Bool). x || is_named code k t (rest c)) (sym e ∙ h)
+  pub named_rest : (c : Elems) → has_name x k t c ≡ false → is_named x k t c ≡ is_named x k t (rest c)
+  named_rest c h = rw (named_first c, h)
 
-  pub named_end : (i : ℕ) (l : List ℕ) → length l < 3 → is_named code k t (elems i l) ≡ false
+  pub named_gone : (c : Elems) → some c ≡ false → is_named x k t c ≡ false
   unfolding is_named
-  named_end i l h = rw (elems_end i l h)
+  named_gone c h = rw (no_sibling c h)
 
   -- and one of those before the element of a number has
-  module _ (n : ℕ) where
-    taken-first : (c : Elems) → some c ≡ true → is_taken code n k t c ≡ (ltb (number_of c) n && (has_name code k t c || is_taken code n k t (rest c)))
-    unfolding is_taken
-    taken-first none h = absurd (false≢true h)
-    taken-first (token i k' s e r) h = refl
-    taken-first (node i k' s e cs r) h = refl
+  taken_first : (n : ℕ) (c : Elems) → some c ≡ true → is_taken x n k t c ≡ (ltb (number_of c) n && (has_name x k t c || is_taken x n k t (rest c)))
+  unfolding is_taken
+  taken_first n none h = absurd (false≢true h)
+  taken_first n (token i k' s e r) h = refl
+  taken_first n (node i k' s e cs r) h = refl
 
-    taken_at : (i : ℕ) (l : List ℕ) → 3 ≤ length l → is_taken code n k t (elems i l) ≡ (ltb i n && (has_name code k t (elems i l) || is_taken code n k t (rest (elems i l))))
-    taken_at i l h =
-        taken-first (elems i l) (some_long i l h)
-        ∙ ap (λ (x : ℕ). ltb x n && (has_name code k t (elems i l) || is_taken code n k t (rest (elems i l)))) (number_is i l h)
+  taken_at : (n : ℕ) (p : Part) → some (elems_of p) ≡ true
+      → is_taken x n k t (elems_of p) ≡ (ltb p.number n && (has_name x k t (elems_of p) || is_taken x n k t (rest (elems_of p))))
+  taken_at n p s =
+      taken_first n (elems_of p) s
+      ∙ ap (λ (i : ℕ). ltb i n && (has_name x k t (elems_of p) || is_taken x n k t (rest (elems_of p)))) (number_of_part p s)
 
-    pub taken_here : (i : ℕ) (l : List ℕ) (b : Bool) → 3 ≤ length l → i < n → b ≡ has_name code k t (elems i l) → b ≡ true → is_taken code n k t (elems i l) ≡ true
-    taken_here i l b h m e f = taken_at i l h ∙ rw (lt-ltb i n m, ← e, f)
+  pub taken_here : (n : ℕ) (p : Part) → some (elems_of p) ≡ true → p.number < n → has_name x k t (elems_of p) ≡ true → is_taken x n k t (elems_of p) ≡ true
+  taken_here n p s l h = taken_at n p s ∙ rw (lt-ltb p.number n l, h)
 
-    pub taken_next : (i : ℕ) (l : List ℕ) (b : Bool) → 3 ≤ length l → i < n → b ≡ has_name code k t (elems i l) → b ≡ false → is_taken code n k t (elems i l) ≡ is_taken code n k t (rest (elems i l))
-    taken_next i l b h m e f = taken_at i l h ∙ rw (lt-ltb i n m, ← e, f)
+  pub taken_rest : (n : ℕ) (p : Part) → some (elems_of p) ≡ true → p.number < n → has_name x k t (elems_of p) ≡ false
+      → is_taken x n k t (elems_of p) ≡ is_taken x n k t (rest (elems_of p))
+  taken_rest n p s l h = taken_at n p s ∙ rw (lt-ltb p.number n l, h)
 
-    taken-past : (i : ℕ) (l : List ℕ) → 3 ≤ length l → n ≤ i → is_taken code n k t (elems i l) ≡ false
-    taken-past i l h b = taken_at i l h ∙ rw (le-ltb i n b)
+  pub taken_past : (n : ℕ) (p : Part) → some (elems_of p) ≡ true → n ≤ p.number → is_taken x n k t (elems_of p) ≡ false
+  taken_past n p s l = taken_at n p s ∙ rw (le-ltb p.number n l)
 
-    taken_end : (i : ℕ) (l : List ℕ) → length l < 3 → is_taken code n k t (elems i l) ≡ false
-    unfolding is_taken
-    taken_end i l h = rw (elems_end i l h)
+  pub taken_gone : (n : ℕ) (c : Elems) → some c ≡ false → is_taken x n k t c ≡ false
+  unfolding is_taken
+  taken_gone n c h = rw (no_sibling c h)
 
-  -- none where the part is at its end, or has no more of the elements
-  pub taken-left : (i at elements : ℕ) (l : List ℕ) → (ltb at elements && leb 3 (length l)) ≡ false → is_taken code (i + elements) k t (elems (i + at) l) ≡ false
-  taken-left i at elements l h =
-      low_or at elements (λ a. taken_end (i + elements) (i + at) l (leb-false 3 (length l) (rw (lt-ltb at elements a) at h)))
-      (λ b. low_or (length l) 3 (taken_end (i + elements) (i + at) l) (λ a. taken-past (i + elements) (i + at) l a (omega arith)))
+-- so that its own name is free
+module _ (x : Matcher) (ps : Elems) (q : Part) (k : ℕ) (t : List ℕ) (s : some (pattern_name (elems_of q)) ≡ true)
+    (e : k ≡ kind_of (pattern_name (elems_of q))) (f : t ≡ text_of x.code (pattern_name (elems_of q))) where
+  pub taken_not_free : is_taken x q.number k t ps ≡ true → is_free x ps (elems_of q) ≡ false
+  taken_not_free h = rw (name_number q s, ← e, ← f, h)
+
+  pub free_not_taken : is_taken x q.number k t ps ≡ false → is_free x ps (elems_of q) ≡ true
+  free_not_taken h = rw (name_number q s, ← e, ← f, h)
 
 -- ---- the last field of a name
 
@@ -139,46 +112,46 @@ or_none : (b : Elems) → or_else none b ≡ b
 unfolding or_else
 or_none b = refl
 
-module _ (facts : List ℕ) (tree : Elems) (text : List ℕ) (k : ℕ) (t : List ℕ) where
-  last-first : (c : Elems) → last_field facts tree text k t c ≡ or_else (last_field facts tree text k t (rest c)) (cond (is_field facts tree text k t c) c none)
+module _ (x : Matcher) (k : ℕ) (t : List ℕ) where
+  last_first : (c : Elems) → last_field x k t c ≡ or_else (last_field x k t (rest c)) (cond (is_field x k t c) c none)
   unfolding last_field or_else
-  last-first none = refl
-  last-first (token i k' s e r) = sym (or_end (last_field facts tree text k t r))
-  last-first (node i k' s e cs r) = refl
+  last_first none = refl
+  last_first (token i k' s e r) = sym (or_end (last_field x k t r))
+  last_first (node i k' s e cs r) = refl
 
-  -- with what was found before, where the first of what is left is such a field, where it is not, where nothing is left, and from the start
-  pub last-here : (c found : Elems) (b : Bool) → some c ≡ true → b ≡ is_field facts tree text k t c → b ≡ true → or_else (last_field facts tree text k t c) found ≡ or_else (last_field facts tree text k t (rest c)) c
-  last-here c found b s e h =
-      ap (λ (x : Elems). or_else x found) (last-first c) ∙ or_or (last_field facts tree text k t (rest c)) (cond (is_field facts tree text k t c) c none) found
-      ∙ rw (← e, h, or_some c found s)
+  -- with what was found before: from the start, where the first of what is left is such a field, where it is not, where nothing is left
+  pub last_start : (c found : Elems) → found ≡ none → or_else (last_field x k t c) found ≡ last_field x k t c
+  last_start c found e = rw e (or_end (last_field x k t c))
 
-  pub last-next : (c found : Elems) (b : Bool) → b ≡ is_field facts tree text k t c → b ≡ false → or_else (last_field facts tree text k t c) found ≡ or_else (last_field facts tree text k t (rest c)) found
-  last-next c found b e h =
-      ap (λ (x : Elems). or_else x found) (last-first c) ∙ or_or (last_field facts tree text k t (rest c)) (cond (is_field facts tree text k t c) c none) found
-      ∙ rw (← e, h, or_none found)
+  pub last_here : (c found : Elems) → some c ≡ true → is_field x k t c ≡ true → or_else (last_field x k t c) found ≡ or_else (last_field x k t (rest c)) c
+  last_here c found s h =
+      ap (λ (y : Elems). or_else y found) (last_first c) ∙ or_or (last_field x k t (rest c)) (cond (is_field x k t c) c none) found
+      ∙ rw (h, or_some c found s)
 
-  pub last_end : (i : ℕ) (l : List ℕ) (found : Elems) → length l < 3 → or_else (last_field facts tree text k t (elems i l)) found ≡ found
+  pub last_rest : (c found : Elems) → is_field x k t c ≡ false → or_else (last_field x k t c) found ≡ or_else (last_field x k t (rest c)) found
+  last_rest c found h =
+      ap (λ (y : Elems). or_else y found) (last_first c) ∙ or_or (last_field x k t (rest c)) (cond (is_field x k t c) c none) found
+      ∙ rw (h, or_none found)
+
+  pub last_gone : (c found : Elems) → some c ≡ false → or_else (last_field x k t c) found ≡ found
   unfolding last_field or_else
-  last_end i l found h = rw (elems_end i l h)
-
-  pub last_start : (c found : Elems) → found ≡ none → last_field facts tree text k t c ≡ or_else (last_field facts tree text k t c) found
-  last_start c found e = rw e (sym (or_end (last_field facts tree text k t c)))
+  last_gone c found h = rw (no_sibling c h)
 
 -- ---- every field that has a name is named
 
-module _ (code facts : List ℕ) (tree : Elems) (text : List ℕ) (ps : Elems) where
-  asked-first : (c : Elems) → are_asked code facts tree text ps c ≡ (is_asked code facts tree text ps c && are_asked code facts tree text ps (rest c))
+module _ (x : Matcher) (ps : Elems) where
+  asked_first : (c : Elems) → are_asked x ps c ≡ (is_asked x ps c && are_asked x ps (rest c))
   unfolding are_asked
-  asked-first none = refl
-  asked-first (token i k s e r) = refl
-  asked-first (node i k s e cs r) = refl
+  asked_first none = refl
+  asked_first (token i k s e r) = refl
+  asked_first (node i k s e cs r) = refl
 
-  pub asked-next : (c : Elems) (b : Bool) → b ≡ is_asked code facts tree text ps c → b ≡ true → are_asked code facts tree text ps c ≡ are_asked code facts tree text ps (rest c)
-  asked-next c b e h = asked-first c ∙ ap (λ (x : Bool). x && are_asked code facts tree text ps (rest c)) (sym e ∙ h)
+  pub asked_rest : (c : Elems) → is_asked x ps c ≡ true → are_asked x ps c ≡ are_asked x ps (rest c)
+  asked_rest c h = rw (asked_first c, h)
 
-  pub asked_not : (c : Elems) (b : Bool) → b ≡ is_asked code facts tree text ps c → b ≡ false → are_asked code facts tree text ps c ≡ false
-  asked_not c b e h = asked-first c ∙ ap (λ (x : Bool). x && are_asked code facts tree text ps (rest c)) (sym e ∙ h)
+  pub asked_not : (c : Elems) → is_asked x ps c ≡ false → are_asked x ps c ≡ false
+  asked_not c h = rw (asked_first c, h)
 
-  pub asked_end : (i : ℕ) (l : List ℕ) → length l < 3 → are_asked code facts tree text ps (elems i l) ≡ true
+  pub asked_gone : (c : Elems) → some c ≡ false → are_asked x ps c ≡ true
   unfolding are_asked
-  asked_end i l h = rw (elems_end i l h)
+  asked_gone c h = rw (no_sibling c h)

@@ -1,227 +1,177 @@
 // The fields of record lists by name. Without a heap there is no map: a name is looked for among the code's siblings, or the pattern's.
 #![tactic(auto)]
 
-ghost use Rattle.std.specs.Prelude.{◌≡◌, ℕ, ◌+◌, ◌*◌, ◌≤◌, length, drop};
-ghost use Rattle.syntax.specs.Trees.{elems, tree};
-ghost use Rattle.matcher.specs.FileFacts.{FileOf};
-ghost use Rattle.record_fields.specs.Fields.{pattern_name, has_name, is_named, is_taken, field_name, is_field, last_field, is_asked, are_asked, FieldIs};
+ghost use Rattle.std.specs.Prelude.{◌≡◌};
+ghost use Rattle.syntax.specs.Views.{elems_of, IsWithin};
+ghost use Rattle.matcher.specs.Matcher.{matcher_of};
+ghost use Rattle.record_fields.specs.Fields.{pattern_name, has_name, is_named, is_taken, field_name, is_field, last_field, is_asked, are_asked, NameIs, FieldIs};
 
-use matcher::{file_facts, token_matching};
-use syntax::{accessors, parts};
-use words::slices;
+use matcher::{Matcher, token_matching};
+use syntax::kinds::{Kinds, RECORD_EXPR_FIELD};
+use syntax::parts::Part;
 
-// Of a field of the pattern: whether it has a name, whether no field before it has the same, and how many elements of the code are before the
-// last field of that name.
+// A field's name: the kind of its token, and its text.
 #[derive(Clone, Copy)]
-pub struct Field {
-    pub named: bool,
-    pub free: bool,
-    pub c: usize,
+pub struct Name<'a> {
+    pub kind: u32,
+    pub text: &'a [u8],
+}
+
+// The siblings of the pattern's record list, and those of the code's.
+#[derive(Clone, Copy)]
+pub struct Lists<'a> {
+    pub p: Part<'a>,
+    pub c: Part<'a>,
+}
+
+// What one of the pattern's siblings finds in the code: nothing where it has no name or a field before it took the name, else the last field of
+// the name, empty where there is none.
+#[derive(Clone, Copy)]
+pub enum Field<'a> {
+    Unnamed,
+    Taken,
+    Last(Part<'a>),
+}
+
+// The name that a token is.
+fn name_in<'t>(token: Part, text: &'t [u8]) -> Option<Name<'t>>
+    ensures { NameIs text.now (elems_of token.entry) result }
+{
+    if token.is_empty() {
+        return None;
+    }
+    Some(Name {
+        kind: token.kind(),
+        text: token.text(text),
+    })
 }
 
 // The part of the name that the first of the pattern's siblings has; empty where it has none.
-pub fn pattern_name(q: &[u32]) -> &[u32]
-    ensures { (i : ℕ) → (j : ℕ) × (elems j result.now ≡ pattern_name (elems i q.now)) }
+#[tactic(auto, using(matcher::proofs::NameLaws::no_name))]
+pub fn pattern_name(q: Part) -> Part
+    ensures value { elems_of result ≡ pattern_name (elems_of q.entry) }
+    ensures result_in_bounds { IsWithin result q.entry }
 {
-    if accessors::is_node_in(q, 1, 4095) {
-        return accessors::only_ident(parts::children(q));
+    if q.is_node() {
+        return q.children().only_ident();
     }
-    &q[..0]
+    q.none()
 }
 
-// Whether the first of the pattern's siblings has a name.
-fn has_name(q: &[u32], rule: &[u8], kind: u32, name: &[u8]) -> bool
-    ensures { (i : ℕ) → result ≡ has_name rule.now kind name.now (elems i q.now) }
+// Its name.
+pub fn name_of<'a>(x: &Matcher<'a>, q: Part) -> Option<Name<'a>>
+    ensures { NameIs x.now.rule.now (pattern_name (elems_of q.entry)) result }
 {
-    let ident = pattern_name(q);
-    if ident.len() < 3 {
-        return false;
+    name_in(pattern_name(q), x.rule)
+}
+
+// Whether it has a name.
+fn has_name(x: &Matcher, q: Part, name: Name) -> bool
+    ensures { result ≡ has_name (matcher_of x.now) name.entry.kind name.entry.text.now (elems_of q.entry) }
+{
+    match name_of(x, q) {
+        Some(own) => token_matching::same_name(own.kind, own.text, name.kind, name.text),
+        None => false,
     }
-    let at = accessors::range_of(ident);
-    let own = slices::part_of(rule, at.start, at.end);
-    token_matching::same_name(siblings::kind_of(ident), own, kind, name)
 }
 
 // Whether one of the pattern's siblings has a name.
-pub fn is_named(part: &[u32], rule: &[u8], kind: u32, name: &[u8]) -> bool
-    ensures { (i : ℕ) → result ≡ is_named rule.now kind name.now (elems i part.now) }
+#[tactic(auto, using(crate::proofs::FieldLaws::named_here, crate::proofs::FieldLaws::named_rest, crate::proofs::FieldLaws::named_gone))]
+pub fn is_named(x: &Matcher, part: Part, name: Name) -> bool
+    ensures { result ≡ is_named (matcher_of x.now) name.entry.kind name.entry.text.now (elems_of part.entry) }
 {
-    let mut q = part;
-    while 3 <= q.len() {
-        if has_name(q, rule, kind, name) {
+    for q in part {
+        if has_name(x, q, name) {
             return true;
         }
-        let d = parts::rest(q);
-        q = d;
     }
     false
 }
 
-// Whether one of those that begin within the first elements of a part has it.
-pub fn is_taken(part: &[u32], elements: usize, rule: &[u8], kind: u32, name: &[u8]) -> bool
-    ensures { (i : ℕ) → result ≡ is_taken rule.now (i + elements) kind name.now (elems i part.now) }
+// Whether one of those before the element of a number has it.
+#[tactic(auto, using(crate::proofs::FieldLaws::taken_here, crate::proofs::FieldLaws::taken_rest, crate::proofs::FieldLaws::taken_past, crate::proofs::FieldLaws::taken_gone))]
+pub fn is_taken(x: &Matcher, part: Part, number: usize, name: Name) -> bool
+    ensures { result ≡ is_taken (matcher_of x.now) number name.entry.kind name.entry.text.now (elems_of part.entry) }
 {
-    let mut q = part;
-    let mut at: usize = 0;
-    while (at < elements) & (3 <= q.len()) {
-        if has_name(q, rule, kind, name) {
+    for q in part {
+        if number <= q.number {
+            return false;
+        }
+        if has_name(x, q, name) {
             return true;
         }
-        let n = siblings::width(q);
-        let d = siblings::behind(q, n);
-        at += n;
-        q = d;
     }
     false
 }
 
 // The part of the name of the first of the code's siblings; empty where it is no field or has no name.
-fn field_name<'a>(c: &[u32], words: &'a [u32], facts: &[u32], index: &[u64], ce: usize) -> &'a [u32]
-    requires { FileOf words.now facts.now index.now }
-    ensures { (j : ℕ) × (elems j result.now ≡ field_name facts.now (tree words.now) (elems ce c.now)) }
+#[tactic(auto, using(crate::proofs::FieldLaws::field_number, matcher::proofs::NameLaws::no_name))]
+fn field_name<'a>(x: &Matcher<'a>, c: Part) -> Part<'a>
+    ensures { elems_of result ≡ field_name (matcher_of x.now) (elems_of c.entry) }
 {
-    if accessors::is_node_in(c, 9, 9) {
-        return file_facts::field_name(words, facts, index, ce);
+    if c.is_node_in(Kinds::one(RECORD_EXPR_FIELD)) {
+        return x.field_name(c.number);
     }
-    &words[..0]
+    Part::new(&[])
 }
 
 // Whether it is a field of a name.
-fn is_field(
-    c: &[u32],
-    file: &[u8],
-    words: &[u32],
-    facts: &[u32],
-    index: &[u64],
-    ce: usize,
-    kind: u32,
-    name: &[u8],
-) -> bool
-    requires { FileOf words.now facts.now index.now }
-    ensures { result ≡ is_field facts.now (tree words.now) file.now kind name.now (elems ce c.now) }
+fn is_field(x: &Matcher, c: Part, name: Name) -> bool
+    ensures { result ≡ is_field (matcher_of x.now) name.entry.kind name.entry.text.now (elems_of c.entry) }
 {
-    let token = field_name(c, words, facts, index, ce);
-    if token.len() < 3 {
-        return false;
+    match name_in(field_name(x, c), x.file) {
+        Some(own) => token_matching::same_name(name.kind, name.text, own.kind, own.text),
+        None => false,
     }
-    let at = accessors::range_of(token);
-    let own = slices::part_of(file, at.start, at.end);
-    token_matching::same_name(kind, name, siblings::kind_of(token), own)
 }
 
-// How many elements are before the last of the code's siblings that is a field of a name; all where there is none.
-pub fn find_field(
-    part: &[u32],
-    file: &[u8],
-    words: &[u32],
-    facts: &[u32],
-    index: &[u64],
-    ce: usize,
-    kind: u32,
-    name: &[u8],
-) -> usize
-    requires { FileOf words.now facts.now index.now × (ce * 3 + length part.now ≤ 49152) }
-    ensures result_in_bounds { result * 3 ≤ length part.now }
-    ensures part_value { elems (ce + result) (drop (result * 3) part.now) ≡ last_field facts.now (tree words.now) file.now kind name.now (elems ce part.now) }
+// The last of the code's siblings that is a field of a name, with what follows it; empty where there is none.
+#[tactic(auto, using(crate::proofs::FieldLaws::last_start, crate::proofs::FieldLaws::last_here, crate::proofs::FieldLaws::last_rest, crate::proofs::FieldLaws::last_gone, matcher::proofs::NameLaws::no_name))]
+pub fn find_field<'c>(x: &Matcher, part: Part<'c>, name: Name) -> Part<'c>
+    ensures value { elems_of result ≡ last_field (matcher_of x.now) name.entry.kind name.entry.text.now (elems_of part.entry) }
+    ensures result_in_bounds { IsWithin result part.entry }
 {
-    let mut c = part;
-    let mut at: usize = 0;
-    let mut last = part.len() / 3;
-    while 3 <= c.len() {
-        if is_field(c, file, words, facts, index, ce + at, kind, name) {
-            last = at;
+    let mut last = part.none();
+    for c in part {
+        if is_field(x, c, name) {
+            last = c;
         }
-        let n = siblings::width(c);
-        let d = siblings::behind(c, n);
-        at += n;
-        c = d;
     }
     last
 }
 
 // Whether the first of the code's siblings, where it has a name, is named by one of the pattern's.
-fn is_asked(
-    ps: &[u32],
-    c: &[u32],
-    rule: &[u8],
-    file: &[u8],
-    words: &[u32],
-    facts: &[u32],
-    index: &[u64],
-    ce: usize,
-) -> bool
-    requires { FileOf words.now facts.now index.now }
-    ensures { (i : ℕ) → result ≡ is_asked rule.now facts.now (tree words.now) file.now (elems i ps.now) (elems ce c.now) }
+fn is_asked(x: &Matcher, ps: Part, c: Part) -> bool
+    ensures { result ≡ is_asked (matcher_of x.now) (elems_of ps.entry) (elems_of c.entry) }
 {
-    let token = field_name(c, words, facts, index, ce);
-    if token.len() < 3 {
-        return true;
+    match name_in(field_name(x, c), x.file) {
+        Some(own) => is_named(x, ps, own),
+        None => true,
     }
-    let at = accessors::range_of(token);
-    let own = slices::part_of(file, at.start, at.end);
-    is_named(ps, rule, siblings::kind_of(token), own)
 }
 
 // Whether every one of the code's siblings that has a name is named by one of the pattern's.
-pub fn are_asked(
-    ps: &[u32],
-    part: &[u32],
-    rule: &[u8],
-    file: &[u8],
-    words: &[u32],
-    facts: &[u32],
-    index: &[u64],
-    ce: usize,
-) -> bool
-    requires { FileOf words.now facts.now index.now × (ce * 3 + length part.now ≤ 49152) }
-    ensures { (i : ℕ) → result ≡ are_asked rule.now facts.now (tree words.now) file.now (elems i ps.now) (elems ce part.now) }
+#[tactic(auto, using(crate::proofs::FieldLaws::asked_not, crate::proofs::FieldLaws::asked_rest, crate::proofs::FieldLaws::asked_gone))]
+pub fn are_asked(x: &Matcher, lists: Lists) -> bool
+    ensures { result ≡ are_asked (matcher_of x.now) (elems_of lists.entry.p) (elems_of lists.entry.c) }
 {
-    let mut c = part;
-    let mut at: usize = ce;
-    while 3 <= c.len() {
-        if is_asked(ps, c, rule, file, words, facts, index, at) {
-            let n = siblings::width(c);
-            let d = siblings::behind(c, n);
-            at += n;
-            c = d;
-        } else {
+    for c in lists.c {
+        if !is_asked(x, lists.p, c) {
             return false;
         }
     }
     true
 }
 
-// The field of the code that the pattern's sibling behind some elements asks for.
-pub fn field_for(
-    ps: &[u32],
-    elements: usize,
-    cs: &[u32],
-    rule: &[u8],
-    file: &[u8],
-    words: &[u32],
-    facts: &[u32],
-    index: &[u64],
-    ce: usize,
-) -> Field
-    requires elements_in_bounds { elements * 3 ≤ length ps.now }
-    requires file_of { FileOf words.now facts.now index.now × (ce * 3 + length cs.now ≤ 49152) }
-    ensures c_in_bounds { result.c * 3 ≤ length cs.now }
-    ensures by_index { (i : ℕ) → FieldIs rule.now file.now (tree words.now) facts.now i ps.now elements ce cs.now result }
+// The field of the code that one of the pattern's siblings asks for.
+pub fn field_for<'a>(x: &Matcher, lists: Lists<'a>, q: Part) -> Field<'a>
+    ensures { FieldIs (matcher_of x.now) lists.entry (elems_of q.entry) result }
 {
-    let ident = pattern_name(siblings::behind(ps, elements));
-    if ident.len() < 3 {
-        return Field {
-            named: false,
-            free: false,
-            c: 0,
-        };
+    let Some(name) = name_of(x, q) else {
+        return Field::Unnamed;
+    };
+    if is_taken(x, lists.p, q.number, name) {
+        return Field::Taken;
     }
-    let at = accessors::range_of(ident);
-    let name = slices::part_of(rule, at.start, at.end);
-    let kind = siblings::kind_of(ident);
-    Field {
-        named: true,
-        free: !is_taken(ps, elements, rule, kind, name),
-        c: find_field(cs, file, words, facts, index, ce, kind, name),
-    }
+    Field::Last(find_field(x, lists.c, name))
 }

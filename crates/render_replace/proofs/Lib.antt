@@ -1,6 +1,8 @@
--- Laws of the texts around a row's text, of the work that is left, of a match's comments, of a row's turn, and of one turn after the other.
+-- Laws of the definitions of specs/, for the proofs of this crate and of those above.
+pub mod CommentLaws
 pub mod StackLaws
 pub mod WorkLaws
-pub mod CommentLaws
+pub mod StepLaws
+pub mod RowLaws
 pub mod TurnLaws
 pub mod RunLaws

@@ -1,105 +1,98 @@
 -- Laws of one turn after the other: what all turns so far leave.
 -- Assumes nothing.
-use mathlib.Core.Path.{◌≡◌, refl, sym, subst, ◌∙◌}
+use mathlib.Core.Path.{◌≡◌, refl, ap, subst, ◌∙◌}
 use mathlib.Core.List.{List}
-use Prim.Native.Nat.{ℕ, ◌+◌, ◌*◌, ◌≤◌, ◌<◌}
-use native.Mathlib.Nat.{le_refl}
+use Prim.Native.Nat.{ℕ, ◌≤◌, ◌<◌}
 use native.Mathlib.Omega.{arith}
-use lib.ListN.{length, take}
-use Rattle.preparing.specs.Ready.{MarksRoomy}
-use Rattle.rule_paths.proofs.FailLaws.{roomy_after}
-use Rattle.rows.specs.Rows.{World, row_trace}
-use Rattle.rows.specs.Frames.{begin_of, entered}
-use Rattle.rows.proofs.FrameLaws.{Entered, enters}
+use lib.ListN.{length, take, set}
+use Rattle.std.specs.Prelude.{Option, Some, None, Result, Ok, Err}
+use Rattle.rows.specs.declared.frames.Frame.{Frame}
+use Rattle.rows.specs.Rows.{World, count_of, row_trace}
+use Rattle.rows.specs.Frames.{frame_at, frame_of}
 use Rattle.rows.proofs.StandLaws.{enters_passing}
-use Rattle.readying.specs.declared.Template.{Template}
-use Rattle.render_replace.specs.declared.turns.Laid.{Laid}
-use Rattle.render_replace.specs.declared.turns.Next.{Next}
-use Rattle.render_replace.specs.declared.turns.Next.TheVariants.{Row, Ends}
-use Rattle.render_replace.specs.Worlds.{Handed, Shown, Lent, HasFrames, AtHand}
-use Rattle.render_replace.specs.Stacks.{base}
+use Rattle.replacing.specs.declared.Event.{Event}
+use Rattle.replacing.proofs.CapturedLaws.{frame_here}
+use Rattle.render_replace.specs.declared.turns.Turned.{Turned}
+use Rattle.render_replace.specs.Worlds.{Handed, Shown}
+use Rattle.render_replace.specs.Stacks.{base, work_left}
 use Rattle.render_replace.specs.Answers.{Answers}
-use Rattle.render_replace.specs.Turns.{AtTurn, TurnLeft, TurnKeeps}
-
--- the tables are as large as they were
-pub record Sizes (frames₀ index₀ spare₀ paths₀ calls₀ marks₀ out₀ frames index spare paths calls marks out : List ℕ) : Type 0 where
-  pub of_frames : length frames ≡ length frames₀
-  pub of_index : length index ≡ length index₀
-  pub of_spare : length spare ≡ length spare₀
-  pub of_paths : length paths ≡ length paths₀
-  pub of_calls : length calls ≡ length calls₀
-  pub of_marks : length marks ≡ length marks₀
-  pub of_out : length out ≡ length out₀
-
-module _ {words frames₀ index₀ spare₀ paths₀ calls₀ marks₀ out₀ frames index spare paths calls marks out : List ℕ} where
-  pub lent_after : Lent words index₀ spare₀ paths₀ calls₀ → Sizes frames₀ index₀ spare₀ paths₀ calls₀ marks₀ out₀ frames index spare paths calls marks out
-      → Lent words index spare paths calls
-  lent_after l s = record {
-    roomy = roomy_after words index spare paths calls l.roomy (le_refl (length words)) s.of_index s.of_spare s.of_paths s.of_calls;
-    for_parts = omega (arith, l.for_parts, s.of_spare, s.of_paths);
-    for_flags = omega (arith, l.for_flags, s.of_spare, s.of_calls);
-  }
-
-pub marks-after : (words marks₀ marks : List ℕ) → MarksRoomy words marks₀ → length marks ≡ length marks₀ → MarksRoomy words marks
-marks-after words marks₀ marks m e k h few = omega (arith, m k h few)
+use Rattle.render_replace.specs.Turns.{AtTurn, TurnLeftIn, TurnLeft, TurnKeeps, NextIn, TextLeft, RunLeft}
 
 -- the turns taken so far: every world in which row k0 stood at the first place has row k stand at the present one
-pub record Going (h : Handed) (k0 : ℕ) (frames₀ out₀ : List ℕ) (at₀ : ℕ)
-    (frames out : List ℕ) (k at : ℕ) (t : Template) (spare : List ℕ) : Type 0 where
-  pub begin : begin_of frames k0 ≡ begin_of frames₀ k0
-  pub before : take (begin_of frames₀ k0) out ≡ take (begin_of frames₀ k0) out₀
-  pub hand : AtHand h.rules t spare
+pub record Going (h : Handed) (k0 : ℕ) (frames₀ : List Frame) (out₀ : List ℕ) (at₀ : ℕ) (frames : List Frame) (out : List ℕ) (k at : ℕ) : Type 0 where
+  pub frames_length : length frames ≡ length frames₀
+  pub begin : (frame_of frames k0).begin ≡ (frame_of frames₀ k0).begin
+  pub out_length : length out ≡ length out₀
+  pub before : take (frame_of frames₀ k0).begin out ≡ take (frame_of frames₀ k0).begin out₀
   pub still : (W : World) → AtTurn W h k0 k0 frames₀ out₀ at₀ → AtTurn W h k0 k frames out at
 
-module _ {h : Handed} {k0 : ℕ} {frames₀ out₀ : List ℕ} {at₀ : ℕ} where
-  pub going_none : {t : Template} {spare : List ℕ} → AtHand h.rules t spare
-      → Going h k0 frames₀ out₀ at₀ frames₀ out₀ k0 at₀ t spare
-  going_none a = record { begin = refl; before = refl; hand = a; still = λ W p. p }
+module _ (h : Handed) (k0 : ℕ) (frames₀ : List Frame) (out₀ : List ℕ) (at₀ : ℕ) where
+  pub going_none : Going h k0 frames₀ out₀ at₀ frames₀ out₀ k0 at₀
+  going_none = record { frames_length = refl; begin = refl; out_length = refl; before = refl; still = λ W p. p }
 
-  module _ {frames out : List ℕ} {k at : ℕ} {t : Template} {spare : List ℕ}
-      (g : Going h k0 frames₀ out₀ at₀ frames out k at t spare) (frames' out' : List ℕ) (n : Next) where
-    -- bytes before the outermost text
-    kept : TurnKeeps k0 k frames frames' out out' n → take (begin_of frames₀ k0) out' ≡ take (begin_of frames₀ k0) out₀
-    kept s = subst (λ (b : ℕ). take b out' ≡ take b out) g.begin s.out_before ∙ g.before
+  module _ (frames : List Frame) (out : List ℕ) (k at : ℕ) (g : Going h k0 frames₀ out₀ at₀ frames out k at) where
+    pub still_at : (W : World) → AtTurn W h k0 k0 frames₀ out₀ at₀ → AtTurn W h k0 k frames out at
+    still_at W p = g.still W p
 
-    -- one more
-    pub goes_on : (j at' : ℕ) (t' : Template) (spare' : List ℕ) → TurnKeeps k0 k frames frames' out out' n → AtHand h.rules t' spare' → n ≡ Row j at'
-        → ((W : World) → AtTurn W h k0 k frames out at
-        → TurnLeft W h k0 frames frames' out' n)
-        → Going h k0 frames₀ out₀ at₀ frames' out' j at' t' spare'
-    goes_on j at' t' spare' s hand e left = record {
-      begin = s.begin ∙ g.begin;
-      before = kept s;
-      hand = hand;
-      still = λ W p. subst (λ (x : Next). TurnLeft W h k0 frames frames' out' x) e (left W (g.still W p));
-    }
+    module _ (frames' : List Frame) (out' : List ℕ) (r : Result Turned Event) (s : TurnKeeps k0 k frames frames' out out' r) where
+      -- bytes before the outermost text
+      pub kept : take (frame_of frames₀ k0).begin out' ≡ take (frame_of frames₀ k0).begin out₀
+      kept = subst (λ (b : ℕ). take b out' ≡ take b out) g.begin s.out_before ∙ g.before
 
-    -- the last one
-    pub has_gone : (l : Laid) → TurnKeeps k0 k frames frames' out out' n → n ≡ Ends l
-        → ((W : World) → AtTurn W h k0 k frames out at
-        → TurnLeft W h k0 frames frames' out' n)
-        → (take (begin_of frames₀ k0) out' ≡ take (begin_of frames₀ k0) out₀)
-        × ((W : World) → AtTurn W h k0 k0 frames₀ out₀ at₀ → Answers (row_trace W k0) (begin_of frames₀ k0) out' l)
-    has_gone l s e left = (
-      kept s,
-      λ W p. subst (λ (b : ℕ). Answers (row_trace W k0) b out' l) g.begin
-          (subst (λ (x : Next). TurnLeft W h k0 frames frames' out' x) e (left W (g.still W p))),
-    )
+      module _ (l : TurnLeft h k0 k frames out at frames' out' r) where
+        -- one more
+        pub goes_on : (t : Turned) (j : ℕ) → r ≡ Ok t → t.next ≡ Some j → Going h k0 frames₀ out₀ at₀ frames' out' j t.at
+        goes_on t j e n = record {
+          frames_length = s.frames_length ∙ g.frames_length;
+          begin = s.begin ∙ g.begin;
+          out_length = s.out_length ∙ g.out_length;
+          before = kept;
+          still = λ W p.
+              let x : TurnLeftIn W h k0 frames frames' out' (Ok t) = rw e at (l.left W (g.still W p)) in
+              subst (λ (o : Option ℕ). NextIn W h k0 frames frames' out' t.at o) n x;
+        }
+
+        pub goes_less : (t : Turned) (j : ℕ) → r ≡ Ok t → t.next ≡ Some j → work_left frames' j < work_left frames k
+        goes_less t j e n = (rw (e, n) at s.falls)
+
+        -- the last one
+        pub has_gone : (t : Turned) → r ≡ Ok t → t.next ≡ None → RunLeft h k0 frames₀ out₀ at₀ out' (Ok t.at)
+        has_gone t e n = record {
+          left = λ W p.
+              let x : TurnLeftIn W h k0 frames frames' out' (Ok t) = rw e at (l.left W (g.still W p)) in
+              subst (λ (b : ℕ). Answers (row_trace W k0) b out' (Ok t.at)) g.begin
+              (subst (λ (o : Option ℕ). NextIn W h k0 frames frames' out' t.at o) n x);
+        }
+
+        pub has_ended : (v : Event) (q : Result ℕ Event) → r ≡ Err v → q ≡ Err v → RunLeft h k0 frames₀ out₀ at₀ out' q
+        has_ended v q e i = record {
+          left = λ W p.
+              let x : TurnLeftIn W h k0 frames frames' out' (Err v) = rw e at (l.left W (g.still W p)) in
+              rw i (subst (λ (b : ℕ). Answers (row_trace W k0) b out' (Err v)) g.begin x);
+        }
 
 -- ---- the first turn
 
-module _ (k0 begin : ℕ) (frames frames' : List ℕ) (room : 22 * k0 + 22 ≤ length frames) (e : frames' ≡ entered frames k0 begin) where
-  enters_here : Entered frames k0 begin frames'
-  enters_here = subst (λ (l : List ℕ). Entered frames k0 begin l) (sym e) (enters frames k0 begin room)
+module _ (k0 begin : ℕ) (frames frames' : List Frame) (is : frames' ≡ set frames k0 (frame_at begin)) (here : k0 < length frames) where
+  entered : frame_of frames' k0 ≡ frame_at begin
+  entered = ap (λ (l : List Frame). frame_of l k0) is ∙ frame_here frames k0 (frame_at begin) here
 
-  pub begins_here : begin_of frames' k0 ≡ begin
-  begins_here = enters_here.begin
+  pub begins_here : (frame_of frames' k0).begin ≡ begin
+  begins_here = ap (λ (f : Frame). f.begin) entered
 
-  pub begins_turn : {W : World} {h : Handed} {out : List ℕ} → Shown W h
-      → k0 < W.count → HasFrames W frames → begin ≤ length out → AtTurn W h k0 k0 frames' out begin
-  begins_turn {W} {out = out} s inside all fits =
-      let p = enters_passing W k0 begin frames frames' out fits enters_here in
-      record {
-        at_row = record { shown = s; inside = inside; room = omega (arith, all, enters_here.size); standing = (λ _. p, λ m. absurd (omega (arith, p.none))) };
-        stack = base;
-      }
+  pub begins_turn : (W : World) (h : Handed) (out : List ℕ) → Shown W h → k0 < count_of W → length h.rows ≤ length frames' → begin ≤ length out → AtTurn W h k0 k0 frames' out begin
+  begins_turn W h out s inside all fits = record {
+    at_row = record {
+      shown = s;
+      inside = inside;
+      room = omega (arith, all, ap length s.reads);
+      standing = rw entered (enters_passing W k0 begin out fits);
+    };
+    stack = base;
+  }
+
+  pub text_left : (h : Handed) (out : List ℕ) (out' : List ℕ) (r : Result ℕ Event) → length h.rows ≤ length frames' → begin ≤ length out
+      → RunLeft h k0 frames' out begin out' r → TextLeft h k0 begin out' r
+  text_left h out out' r all fits l = record {
+    left = λ W s inside. subst (λ (b : ℕ). Answers (row_trace W k0) b out' r) begins_here (l.left W (begins_turn W h out s inside all fits));
+  }

@@ -1,102 +1,88 @@
--- What the words that rendering is handed show of each row: its template, told in the module of its node, and its comments. `links` has
--- three words a row: the place behind the last row that is nested in it, 1 where it has comments, and the module.
+-- What is handed to rendering, and what it shows of each row: its template, told in the module of its node, and its comments.
 -- Assumes nothing.
-use Rattle.std.specs.Prelude.{ℕ, ◌+◌, ◌*◌, ◌≤◌, ◌<◌, ◌≡◌, true, false, List, [], map, length, drop}
+use Rattle.std.specs.Prelude.{ℕ, ◌≤◌, ◌<◌, ◌≡◌, true, false, List, [], map, Option, None, Some, is_some}
 use Rattle.errors.specs.Refusals.{ok}
-use Rattle.words.specs.Fields.{start_of, end_of}
-use Rattle.fragments.specs.Pairs.{pairs}
-use Rattle.rules.specs.declared.stages.Stage.TheVariants.{TreesWithFacts}
-use Rattle.rules.specs.declared.numbering.Found.{Found}
+use Rattle.fragments.specs.Pairs.{pairs_in}
 use Rattle.rules.specs.Forms.{any}
 use Rattle.rule_paths.specs.RulePaths.{pair_fails}
-use Rattle.rule_paths.specs.Needs.{AllRoomy}
+use Rattle.words.specs.declared.texts.Range.{Range}
+use Rattle.syntax.specs.Trees.{tree}
+use Rattle.syntax.specs.Accessors.{range_of, element_at}
+use Rattle.captures.specs.declared.State.{State}
 use Rattle.captures.specs.Attempts.{comments_of}
-use Rattle.checks.specs.declared.Restriction.{Restriction}
-use Rattle.checks.specs.Given.{File, Rules, file_of, rules_of, stage, found_rule, is_node_of}
+use Rattle.parses.specs.Parses.{Parse, lookup}
+use Rattle.rules.specs.declared.numbering.Rule.{Rule}
+use Rattle.nester.specs.declared.Row.{Row}
+use Rattle.nester.specs.Rows.{row_at}
+use Rattle.rows.specs.Rows.{World, count_of, NestedBefore}
+use Rattle.checks.specs.declared.Rules.{Rules}
+use Rattle.checks.specs.Given.{File, found_rule, is_node_of, rule_trees}
+use Rattle.templates.specs.declared.Piece.{Piece}
 use Rattle.rule_match.specs.RuleMatch.{found_match}
-use Rattle.parses.specs.Parses.{parses_of, lookup}
-use Rattle.nester.specs.Rows.{field}
-use Rattle.rows.specs.Rows.{World, NestedBefore}
-use Rattle.collections.specs.Links.{link_word}
-use Rattle.readying.specs.declared.Template.{Template}
-use Rattle.readying.specs.Templates.{rule_fragments, rule_kind}
-use Rattle.readying.specs.Ready.{rule_form, TemplateOf}
+use Rattle.readying.specs.declared.ReadyTemplate.{ReadyTemplate}
+use Rattle.readying.specs.Templates.{found_template, rule_fragments, rule_kind}
+use Rattle.readying.specs.Ready.{TemplateOf}
 
 -- "the texts of its noted comments in turn", of a node matched with the rule of a number
-abbrev pub noted_comments : Rules → File → Restriction → ℕ → ℕ → List ℕ
+abbrev pub noted_comments : Rules → File → Option Range → ℕ → ℕ → List ℕ
 noted_comments q f range number node = comments_of (found_match q f (found_rule q number) range node)
 
--- what a job hands to rendering: its rules, its file, the range that matches have to be in, the fact text, the parses, and the rows with
--- their links
+-- how many bytes of comments a match that was found noted
+abbrev pub noted_in : Option State → ℕ
+noted_in None = 0
+noted_in (Some s) = s.noted
+
+-- what a job hands to rendering: its rules, its file, the range that matches have to be in, the fact text, the parses, and the rows
 pub record Handed : Type 0 where
   pub rules : Rules
   pub file : File
-  pub range : Restriction
+  pub range : Option Range
   pub fact_text : List ℕ
-  pub parses : List ℕ
-  pub parse_text : List ℕ
-  pub rows : List ℕ
-  pub links : List ℕ
+  pub parses : List Parse
+  pub rows : List Row
 
-abbrev pub handed_of : (directory words bytes fact_text tree text facts : List ℕ) (range : Restriction) (parses parse_text rows links : List ℕ)
-    → Handed
-handed_of directory words bytes fact_text tree text facts range parses parse_text rows links = record {
-  rules = rules_of directory words bytes (length fact_text);
-  file = file_of tree text facts;
+abbrev pub handed_of : Rules → File → Option Range → List ℕ → List Parse → List Row → Handed
+handed_of rules file range fact_text parses rows = record {
+  rules = rules;
+  file = file;
   range = range;
   fact_text = fact_text;
   parses = parses;
-  parse_text = parse_text;
   rows = rows;
-  links = links;
 }
 
--- the rule of row k, and the module of its node
-abbrev pub rule_of : Handed → ℕ → Found
-rule_of h k = found_rule h.rules (field h.rows k 1)
+-- the rule of row k, and the comments of its match
+abbrev pub rule_of : Handed → ℕ → Option Rule
+rule_of h k = found_rule h.rules (row_at h.rows k).rule
 
-abbrev pub module_of : Handed → ℕ → ℕ
-module_of h k = link_word h.links k 2
-
--- the words show a world
-pub record Shown (W : World) (h : Handed) : Type 0 where
-  pub reads : W.rows ≡ h.rows
-  pub few : W.count ≤ 1024
-  pub file : W.file ≡ h.file.text
-  pub starts : (k : ℕ) → k < W.count → W.start_of k ≡ start_of (drop (3 * field h.rows k 0) h.file.words)
-  pub ends : (k : ℕ) → k < W.count → W.end_of k ≡ end_of (drop (3 * field h.rows k 0) h.file.words)
-  pub fragments : (k : ℕ) → k < W.count → W.fragments k ≡ rule_fragments h.fact_text h.rules (rule_of h k) (module_of h k)
-  pub kinds : (k : ℕ) → k < W.count → W.kind k ≡ rule_kind h.rules (rule_of h k)
-  pub comments : (k : ℕ) → k < W.count
-      → W.comments k ≡ noted_comments h.rules h.file h.range (field h.rows k 1) (field h.rows k 0)
-  pub parse : W.parse ≡ lookup (parses_of h.parses h.parse_text)
-  -- each row is of a node, with a rule that has a template
-  pub nodes : (k : ℕ) → k < W.count → is_node_of h.file (field h.rows k 0) ≡ true
-  pub templates : (k : ℕ) → k < W.count → rule_form (rule_of h k) < 5
-  -- what the links say of it
-  pub nested : (k : ℕ) → k < W.count → NestedBefore W k (link_word h.links k 0)
-  pub last : (k : ℕ) → k < W.count → link_word h.links k 0 ≤ W.count
-  pub bare : (k : ℕ) → k < W.count → (link_word h.links k 1 ≡ 1 → ⊥) → W.comments k ≡ []
+abbrev pub comments_in : Handed → ℕ → List ℕ
+comments_in h k = noted_comments h.rules h.file h.range (row_at h.rows k).rule (row_at h.rows k).node
 
 -- the rules passed their checks, and every path that must resolve has a fact
 pub record Checked (q : Rules) : Type 0 where
-  pub trees : stage TreesWithFacts q ≡ ok
-  pub paths : any (map pair_fails (pairs q.directory q.words q.bytes)) ≡ false
+  pub trees : rule_trees q ≡ ok
+  pub paths : any (map pair_fails (pairs_in q.pairs)) ≡ false
 
--- the tables that are lent are large enough
-pub record Lent (words index spare paths calls : List ℕ) : Type 0 where
-  pub roomy : AllRoomy words index spare paths calls
-  pub for_parts : length spare ≤ length paths
-  pub for_flags : length spare ≤ length calls
+-- the values show a world
+pub record Shown (W : World) (h : Handed) : Type 0 where
+  pub reads : W.rows ≡ h.rows
+  pub few : count_of W ≤ 1024
+  pub file : W.file ≡ h.file.text
+  pub starts : (k : ℕ) → k < count_of W → W.start_of k ≡ (range_of (element_at (row_at h.rows k).node (tree h.file.words))).start
+  pub ends : (k : ℕ) → k < count_of W → W.end_of k ≡ (range_of (element_at (row_at h.rows k).node (tree h.file.words))).end
+  pub fragments : (k : ℕ) → k < count_of W → W.fragments k ≡ rule_fragments h.fact_text h.rules (rule_of h k) (row_at h.rows k).«module»
+  pub kinds : (k : ℕ) → k < count_of W → W.kind k ≡ rule_kind h.rules (rule_of h k)
+  pub comments : (k : ℕ) → k < count_of W → W.comments k ≡ comments_in h k
+  pub parse : W.parse ≡ lookup h.parses
+  -- each row is of a node, with a rule that has a template
+  pub nodes : (k : ℕ) → k < count_of W → is_node_of h.file (row_at h.rows k).node ≡ true
+  pub templates : (k : ℕ) → k < count_of W → is_some (found_template h.rules (rule_of h k)) ≡ true
+  -- what the row says of those nested in it, and of its comments
+  pub nested : (k : ℕ) → k < count_of W → NestedBefore W k (row_at h.rows k).end
+  pub last : (k : ℕ) → k < count_of W → (row_at h.rows k).end ≤ count_of W
+  pub bare : (k : ℕ) → k < count_of W → (row_at h.rows k).has_comments ≡ false → W.comments k ≡ []
 
--- each row has a frame
-abbrev pub HasFrames : World → List ℕ → Type 0
-HasFrames W frames = 22 * W.count ≤ length frames
-
--- a template tells that of row k
-abbrev pub TemplateIs : Handed → ℕ → Template → List ℕ → Type 0
-TemplateIs h k t table = TemplateOf h.rules (field h.rows k 1) (module_of h k) t table
-
--- a template that says it is ready is
-abbrev pub AtHand : Rules → Template → List ℕ → Type 0
-AtHand q t table = t.ready ≡ true → TemplateOf q t.rule t.«module» t table
+-- a template that is at hand is ready for its rule in its module
+abbrev pub AtHand : Rules → Option ReadyTemplate → List Piece → Type 0
+AtHand q None pieces = Unit {0}
+AtHand q (Some t) pieces = TemplateOf q t.rule t.«module» t pieces

@@ -2,147 +2,71 @@
 #![tactic(auto)]
 
 pub mod comments; // comments.rt: the comments of a match
+pub mod handed; // handed.rt: what a job hands to rendering, and what rendering works in
 pub mod turns; // turns.rt: one row's turn
 
-ghost use Rattle.std.specs.Prelude.{◌≡◌, true, ◌≤◌, ◌<◌, length, take};
-ghost use Rattle.parses.specs.Parses.{is_parse_list};
-ghost use Rattle.matcher.specs.FileFacts.{FileOf};
-ghost use Rattle.checks.specs.Given.{rules_of};
-ghost use Rattle.preparing.specs.Ready.{MarksRoomy};
-ghost use Rattle.rows.specs.Rows.{World, row_trace};
-ghost use Rattle.rows.specs.Frames.{begin_of};
-ghost use Rattle.render_replace.specs.Worlds.{handed_of, Shown, Checked, Lent, HasFrames, AtHand};
-ghost use Rattle.render_replace.specs.Answers.{Answers};
-ghost use Rattle.render_replace.specs.Turns.{AtTurn};
+ghost use Rattle.std.specs.Prelude.{◌≡◌, ◌≤◌, ◌<◌, length, take};
+ghost use Rattle.rows.specs.Rows.{World, count_of};
+ghost use Rattle.rows.specs.Frames.{frame_of};
+ghost use Rattle.render_replace.specs.Worlds.{Shown, AtHand};
+ghost use Rattle.render_replace.specs.Turns.{AtTurn, TextLeft, RunLeft};
 
-use crate::turns::{Laid, Next};
-use checks::Restriction;
-use readying::Template;
-use rows::frames;
-
-// What came of rendering, and the template that is at hand then.
-#[derive(Clone, Copy)]
-pub struct Rendered {
-    pub laid: Laid,
-    pub template: Template,
-}
+pub use handed::{Handed, RenderTables};
+use readying::ReadyTemplate;
+use replacing::Event;
+use rows::frames::Frame;
 
 // The text of the match of row k0, which stands at a place, in turns: its own and those of the rows nested in it.
-fn render_rows<'a>(
-    directory: &[u32],
-    words: &[u32],
-    bytes: &'a [u8],
-    fact_text: &'a [u8],
-    tree: &[u32],
-    text: &[u8],
-    facts: &[u32],
-    file_index: &[u64],
-    parses: &[u32],
-    parse_text: &[u8],
-    rows: &[u32],
-    links: &[u32],
-    range: Restriction,
-    frames: &mut [u32],
+#[tactic(auto, using(crate::proofs::RunLaws::going_none, crate::proofs::RunLaws::still_at, crate::proofs::RunLaws::goes_on, crate::proofs::RunLaws::has_gone, crate::proofs::RunLaws::has_ended, crate::proofs::RunLaws::kept, crate::proofs::RunLaws::goes_less))]
+fn render_rows<'a, const N: usize>(
+    handed: &Handed<'_, 'a, N>,
+    frames: &mut [Frame],
     k0: usize,
-    was: Template,
-    index: &mut [u64],
-    spare: &mut [u64],
-    paths: &mut [u32],
-    calls: &mut [u32],
-    marks: &mut [u32],
+    tables: &mut RenderTables<N>,
+    at_hand: &mut Option<ReadyTemplate<'a>>,
     out: &mut [u8],
     begin: usize,
-) -> Rendered
-    requires checked { Checked (rules_of directory.now words.now bytes.now (length fact_text.now))
-        × Lent words.now index.old spare.old paths.old calls.old × MarksRoomy words.now marks.old
-        × FileOf tree.now facts.now file_index.now }
-    requires parses_value { (is_parse_list (length parse_text.now) parses.now ≡ true) × (length out.old ≤ 1048576)
-        × AtHand (rules_of directory.now words.now bytes.now (length fact_text.now)) was spare.old }
-    requires at_turn { (W : World) × AtTurn W
-        (handed_of directory.now words.now bytes.now fact_text.now tree.now text.now facts.now range
-        parses.now parse_text.now rows.now links.now) k0 k0 frames.old out.old begin }
-    ensures out_unchanged { (take (begin_of frames.old k0) out.new
-        ≡ take (begin_of frames.old k0) out.old)
-        × AtHand
-        (rules_of directory.now words.now bytes.now (length fact_text.now))
-        result.template spare.new }
-    ensures answers { (W : World) → AtTurn W
-        (handed_of directory.now words.now bytes.now fact_text.now
-        tree.now text.now facts.now range parses.now parse_text.now
-        rows.now links.now) k0 k0
-        frames.old out.old begin
-        → Answers (row_trace W k0) (begin_of frames.old k0) out.new result.laid }
+) -> Result<usize, Event>
+    requires at_hand { AtHand handed.now.rules at_hand.old tables.old.pieces }
+    requires fits { length out.old ≤ 1048576 }
+    requires at_turn { (W : World) × AtTurn W handed.now k0 k0 frames.old out.old begin }
+    ensures frames_len { length frames.new ≡ length frames.old }
+    ensures out_unchanged { (length out.new ≡ length out.old) × (take (frame_of frames.old k0).begin out.new ≡ take (frame_of frames.old k0).begin out.old) }
+    ensures at_hand { AtHand handed.now.rules at_hand.new tables.new.pieces }
+    ensures run_left { RunLeft handed.now k0 frames.old out.old begin out.new result }
 {
     let mut k = k0;
     let mut at = begin;
-    let mut template = was;
     loop {
-        let r = turns::take_turn(
-            directory, words, bytes, fact_text, tree, text, facts, file_index, parses, parse_text,
-            rows, links, range, frames, k0, k, template, index, spare, paths, calls, marks, out,
-            at,
-        );
-        let next = r.next;
-        let t = r.template;
-        match next {
-            Next::Row(row, behind) => {
-                k = row;
-                at = behind;
-                template = t;
-            }
-            Next::Ends(laid) => return Rendered { laid, template: t },
+        let turned = turns::take_turn(handed, frames, k0, k, tables, at_hand, out, at)?;
+        at = turned.at;
+        match turned.next {
+            Some(row) => k = row,
+            None => return Ok(at),
         }
     }
 }
 
-// The text of the match of row k0, from a place on, with those nested in it. `was` is the template that is at hand, if any; the tables
-// are lent. What it asks for is some world that the words show; what it answers is right in every such world.
-pub fn render_replace<'a>(
-    directory: &[u32],
-    words: &[u32],
-    bytes: &'a [u8],
-    fact_text: &'a [u8],
-    tree: &[u32],
-    text: &[u8],
-    facts: &[u32],
-    file_index: &[u64],
-    parses: &[u32],
-    parse_text: &[u8],
-    rows: &[u32],
-    links: &[u32],
-    range: Restriction,
-    frames: &mut [u32],
+// The text of the match of row k0, from a place on, with those nested in it. What it asks for is some world that the values show; what it
+// answers is right in every such world.
+#[tactic(auto, using(crate::proofs::RunLaws::begins_turn, crate::proofs::RunLaws::begins_here, crate::proofs::RunLaws::text_left))]
+pub fn render_replace<'a, const N: usize>(
+    handed: &Handed<'_, 'a, N>,
+    frames: &mut [Frame],
     k0: usize,
-    was: Template,
-    index: &mut [u64],
-    spare: &mut [u64],
-    paths: &mut [u32],
-    calls: &mut [u32],
-    marks: &mut [u32],
+    tables: &mut RenderTables<N>,
+    at_hand: &mut Option<ReadyTemplate<'a>>,
     out: &mut [u8],
     begin: usize,
-) -> Rendered
-    requires checked { Checked (rules_of directory.now words.now bytes.now (length fact_text.now))
-        × Lent words.now index.old spare.old paths.old calls.old × MarksRoomy words.now marks.old
-        × FileOf tree.now facts.now file_index.now }
-    requires parses_value { (is_parse_list (length parse_text.now) parses.now ≡ true) × (length out.old ≤ 1048576)
-        × (begin ≤ length out.old) × AtHand (rules_of directory.now words.now bytes.now (length fact_text.now)) was spare.old }
-    requires shown { (W : World) × Shown W
-        (handed_of directory.now words.now bytes.now fact_text.now tree.now text.now facts.now range
-        parses.now parse_text.now rows.now links.now) × (k0 < W.count) × HasFrames W frames.old }
-    ensures out_unchanged { (take begin out.new ≡ take begin out.old)
-        × AtHand
-        (rules_of directory.now words.now bytes.now (length fact_text.now))
-        result.template spare.new }
-    ensures answers { (W : World) → Shown W
-        (handed_of directory.now words.now bytes.now fact_text.now
-        tree.now text.now facts.now range parses.now parse_text.now
-        rows.now links.now)
-        → k0 < W.count → HasFrames W frames.old → Answers (row_trace W k0) begin out.new result.laid }
+) -> Result<usize, Event>
+    requires at_hand { AtHand handed.now.rules at_hand.old tables.old.pieces }
+    requires fits { (length out.old ≤ 1048576) × (begin ≤ length out.old) }
+    requires shown { (W : World) × Shown W handed.now × (k0 < count_of W) × (length handed.now.rows ≤ length frames.old) }
+    ensures frames_len { length frames.new ≡ length frames.old }
+    ensures out_unchanged { (length out.new ≡ length out.old) × (take begin out.new ≡ take begin out.old) }
+    ensures at_hand { AtHand handed.now.rules at_hand.new tables.new.pieces }
+    ensures text_left { TextLeft handed.now k0 begin out.new result }
 {
-    frames::enter(frames, k0, begin);
-    render_rows(
-        directory, words, bytes, fact_text, tree, text, facts, file_index, parses, parse_text,
-        rows, links, range, frames, k0, was, index, spare, paths, calls, marks, out, begin,
-    )
+    frames[k0] = Frame::at(begin);
+    render_rows(handed, frames, k0, tables, at_hand, out, begin)
 }

@@ -1,388 +1,233 @@
 // One row's turn: its steps up to a row that is nested in it, or to the end of its text.
-ghost use Rattle.std.specs.Prelude.{◌≡◌, true, List, ℕ, ◌≤◌, ◌<◌, length};
-ghost use Rattle.parses.specs.Parses.{is_parse_list};
-ghost use Rattle.matcher.specs.FileFacts.{FileOf};
-ghost use Rattle.rule_paths.specs.Needs.{AllRoomy};
-ghost use Rattle.checks.specs.Given.{file_of, rules_of, is_node_of};
-ghost use Rattle.preparing.specs.Ready.{MarksRoomy};
-ghost use Rattle.nester.specs.Rows.{field};
+ghost use Rattle.std.specs.Prelude.{◌≡◌, true, ℕ, ◌≤◌, ◌<◌, length, take};
+ghost use Rattle.checks.specs.Given.{is_node_of};
+ghost use Rattle.nester.specs.Rows.{row_at};
 ghost use Rattle.rows.specs.Rows.{World};
-ghost use Rattle.rows.specs.Frames.{begin_of, Keeps};
+ghost use Rattle.rows.specs.Frames.{frame_of, came, Keeps};
 ghost use Rattle.replacing.specs.Steps.{FramesFor};
-ghost use Rattle.readying.specs.Ready.{TemplateOf};
-ghost use Rattle.collections.specs.Links.{link_word};
-ghost use Rattle.render_replace.specs.Worlds.{handed_of, Checked, Lent, AtHand};
-ghost use Rattle.render_replace.specs.Turns.{AtTemplate, AtRow, RowLeft, next_behind, linked_comments, Ended as EndsRow, AtTurn, TurnLeft, TurnKeeps};
+ghost use Rattle.rerendering.specs.Endings.{Shows, Ended};
+ghost use Rattle.render_replace.specs.Worlds.{AtHand};
+ghost use Rattle.render_replace.specs.Turns.{AtTemplate, StepsEnd, AtRow, RowLeft, row_behind, EndedBy, AtTurn, TurnLeft, TurnKeeps};
 
-use crate::comments;
-use checks::Restriction;
-use fragments::pairs;
-use readying::Template;
-use replacing::pieces::Turn;
-use replacing::turns;
-use rerendering::Ended;
-use rows::{frames, matches};
-use rule_match::Question;
-use words::fields;
+use crate::{Handed, RenderTables, comments};
+use captures::Binding;
+use nester::{Nesting, Row};
+use parentheses::Part;
+use parses::Parses;
+use preparing::MatchTables;
+use readying::ReadyTemplate;
+use readying::reading::Fragments;
+use replacing::{Event, Matches, Step, Template, steps};
+use rows::frames::Frame;
 
-// Where a row's steps end: behind its text, but for its comments; where the text of a row nested in it begins; or by an event. Asked
-// has where the first rendering begins and ends.
-#[derive(Clone, Copy)]
-pub enum Step {
-    Ended(usize),
-    Nested(usize, usize),
-    Unbound,
-    NoRoom,
-    Asked(usize, usize),
-}
-
-// What came of a text: the place behind it, or the event that ended it. Asked has the kind, and where the text begins and ends.
-#[derive(Clone, Copy)]
-pub enum Laid {
-    At(usize),
-    Unbound,
-    NoRoom,
-    Asked(u32, usize, usize),
-}
-
-// Where rendering goes on: in a row at a place, or nowhere.
-#[derive(Clone, Copy)]
-pub enum Next {
-    Row(usize, usize),
-    Ends(Laid),
-}
-
-// A row's steps, with its template, which is at hand then.
-#[derive(Clone, Copy)]
-pub struct Stepped {
-    pub step: Step,
-    pub template: Template,
-}
-
-// A row's turn, and the template that is at hand then.
+// Behind the text of a row, or the part of it that ends where a row nested in it begins: the place, and the row that rendering goes on in, if
+// any.
 #[derive(Clone, Copy)]
 pub struct Turned {
-    pub next: Next,
-    pub template: Template,
+    pub at: usize,
+    pub next: Option<usize>,
 }
 
-// A word of a row's links: 0 the place behind the last row that is nested in it, 1 whether it has comments, 2 its node's module.
-fn link(links: &[u32], k: usize, i: usize) -> u32
-    requires { (k ≤ 1023) × (i < 3) }
-    ensures { result ≡ link_word links.now k i }
+// A row.
+#[tactic(auto, using(crate::proofs::RowLaws::row_read))]
+pub fn row_of(rows: &[Row], k: usize) -> &Row
+    requires { k < length rows.now }
+    ensures { result.now ≡ row_at rows.now k }
 {
-    fields::word(links, 3 * k + i)
+    &rows[k]
+}
+
+// The frame of a row.
+#[tactic(auto, using(replacing::proofs::CapturedLaws::frame_read))]
+fn frame_of(frames: &[Frame], k: usize) -> &Frame
+    requires { k < length frames.now }
+    ensures { result.now ≡ frame_of frames.now k }
+{
+    &frames[k]
+}
+
+// The parts of a first rendering of up to P fragments are made here, in a frame that never lies below those of matching.
+#[inline(never)]
+fn end_rendering<T: Template, const P: usize>(
+    bindings: &[Option<Binding>; 8],
+    frame: &Frame,
+    template: &T,
+    kind: u32,
+    parses: &Parses<'_>,
+    out: &mut [u8],
+    at: usize,
+) -> Result<usize, Event>
+    requires few { (P ≤ 16384) × (length (T.fragments template.now) ≤ P) × (length out.old ≤ 1048576) }
+    requires shows { (W : World) × (k : ℕ) × Shows W k bindings.now frame.now (T.fragments template.now) kind parses.now out.old at }
+    ensures ended { Ended bindings.now frame.now (T.fragments template.now) kind parses.now out.old at out.new result }
+    ensures out_len_unchanged { (length out.new ≡ length out.old) × (take frame.now.begin out.new ≡ take frame.now.begin out.old) }
+{
+    let mut parts = [Part {
+        length: 0,
+        is_placeholder: false,
+        is_enclosed: false,
+    }; P];
+    rerendering::end_rendering(bindings, frame, template, kind, parses, &mut parts, out, at)
+}
+
+// The same, where templates of few fragments need few parts.
+fn end_template<T: Template, const N: usize>(
+    bindings: &[Option<Binding>; 8],
+    frame: &Frame,
+    template: &T,
+    kind: u32,
+    parses: &Parses<'_>,
+    out: &mut [u8],
+    at: usize,
+) -> Result<usize, Event>
+    requires few { (N ≤ 16384) × (length (T.fragments template.now) ≤ N) × (length out.old ≤ 1048576) }
+    requires shows { (W : World) × (k : ℕ) × Shows W k bindings.now frame.now (T.fragments template.now) kind parses.now out.old at }
+    ensures ended { Ended bindings.now frame.now (T.fragments template.now) kind parses.now out.old at out.new result }
+    ensures out_len_unchanged { (length out.new ≡ length out.old) × (take frame.now.begin out.new ≡ take frame.now.begin out.old) }
+{
+    if template.len() <= 64 {
+        return end_rendering::<T, 64>(bindings, frame, template, kind, parses, out, at);
+    }
+    end_rendering::<T, N>(bindings, frame, template, kind, parses, out, at)
 }
 
 // The steps of row k, whose template and kind are at hand, and the end of its first rendering.
-fn render_row<'a>(
-    rows: &[u32],
-    end: usize,
-    frames: &mut [u32],
-    k: usize,
-    tree: &[u32],
-    text: &[u8],
-    table: &[u64],
-    code: &'a [u8],
-    fact_text: &'a [u8],
+#[tactic(auto, using(crate::proofs::StepLaws::at_end, crate::proofs::StepLaws::steps_done, crate::proofs::StepLaws::steps_asked, crate::proofs::StepLaws::steps_nested, crate::proofs::StepLaws::steps_ended, crate::proofs::StepLaws::keeps_row, crate::proofs::StepLaws::keeps_again, crate::proofs::StepLaws::template_low, crate::proofs::StepLaws::came_low))]
+fn render_row<T: Template, const N: usize>(
+    matches: Matches<'_>,
+    template: &T,
     kind: u32,
-    parses: &[u32],
-    parse_text: &[u8],
-    parts: &mut [u32],
-    marks: &mut [u32],
+    parses: &Parses<'_>,
+    frames: &mut [Frame],
+    k: usize,
     out: &mut [u8],
     at: usize,
-) -> Step
-    requires frames_for { FramesFor end k frames.old × (length table.now ≤ 16384) × (length out.old ≤ 1048576)
-        × (is_parse_list (length parse_text.now) parses.now ≡ true) }
-    requires table_in_bounds { (length table.now ≤ length parts.old) × (length table.now ≤ length marks.old) }
-    requires at_template { (W : World) × AtTemplate W rows.now end k tree.now text.now table.now code.now fact_text.now kind
-        parses.now parse_text.now frames.old out.old at }
-    ensures keeps { Keeps k frames.old frames.new (begin_of frames.old k)
-        out.old out.new }
-    ensures row_left { (W : World)
-        → AtTemplate W rows.now end k tree.now text.now table.now code.now
-        fact_text.now kind parses.now parse_text.now frames.old out.old at
-        → RowLeft W k frames.old frames.new out.old out.new result }
+) -> Result<Step, Event>
+    requires frames_for { FramesFor matches k frames.old × (N ≤ 16384) × (length (T.fragments template.now) ≤ N) × (length out.old ≤ 1048576) }
+    requires at_template { (W : World) × AtTemplate W matches (T.fragments template.now) kind parses.now k (frame_of frames.old k) out.old at }
+    ensures keeps { Keeps k frames.old frames.new (frame_of frames.old k).begin out.old out.new }
+    ensures low { came (frame_of frames.old k) < 33556480 }
+    ensures steps_end { StepsEnd matches.entry (T.fragments template.now) kind parses.now k frames.old out.old at frames.new out.new result }
 {
-    match turns::take_steps(
-        rows, end, frames, k, tree, text, table, code, fact_text, out, at,
-    ) {
-        Turn::At(behind) => {
-            match rerendering::end_rendering(
-                rows, frames, k, table, code, fact_text, kind, parses, parse_text, parts, marks,
-                out, behind,
-            ) {
-                Ended::At(last) => Step::Ended(last),
-                Ended::NoRoom => Step::NoRoom,
-                Ended::Asked => Step::Asked(frames::word(frames, k, 0), behind),
-            }
+    match steps::take_steps(matches, template, frames, k, out, at)? {
+        Step::At(behind) => {
+            let bindings = &row_of(matches.rows, k).bindings;
+            let frame = frame_of(frames, k);
+            let last = end_template::<T, N>(bindings, frame, template, kind, parses, out, behind)?;
+            Ok(Step::At(last))
         }
-        Turn::Nested(row, behind) => Step::Nested(row, behind),
-        Turn::Unbound => Step::Unbound,
-        Turn::NoRoom => Step::NoRoom,
+        Step::Nested { row, at: behind } => Ok(Step::Nested { row, at: behind }),
     }
 }
 
 // The steps of row k, whose template is made ready first.
-fn ready_row<'a>(
-    directory: &[u32],
-    words: &[u32],
-    bytes: &'a [u8],
-    fact_text: &'a [u8],
-    tree: &[u32],
-    text: &[u8],
-    parses: &[u32],
-    parse_text: &[u8],
-    rows: &[u32],
-    links: &[u32],
-    frames: &mut [u32],
+#[tactic(auto, using(crate::proofs::RowLaws::frames_for, crate::proofs::RowLaws::at_template, crate::proofs::RowLaws::row_left, crate::proofs::RowLaws::has_template, crate::proofs::RowLaws::at_hand, crate::proofs::RowLaws::few_fragments, crate::proofs::RowLaws::row_inside, crate::proofs::RowLaws::frame_there, crate::proofs::StepLaws::keeps_row))]
+fn ready_row<'a, const N: usize>(
+    handed: &Handed<'_, 'a, N>,
+    frames: &mut [Frame],
     k: usize,
-    was: Template,
-    index: &mut [u64],
-    spare: &mut [u64],
-    paths: &mut [u32],
-    calls: &mut [u32],
+    tables: &mut RenderTables<N>,
+    at_hand: &mut Option<ReadyTemplate<'a>>,
     out: &mut [u8],
     at: usize,
-) -> Stepped
-    requires checked { Checked (rules_of directory.now words.now bytes.now (length fact_text.now))
-        × Lent words.now index.old spare.old paths.old calls.old }
-    requires parses_value { (is_parse_list (length parse_text.now) parses.now ≡ true) × (length out.old ≤ 1048576)
-        × AtHand (rules_of directory.now words.now bytes.now (length fact_text.now)) was spare.old }
-    requires by_index { (W : World) × (facts : List ℕ) × (range : Restriction) × AtRow W
-        (handed_of directory.now words.now bytes.now fact_text.now tree.now text.now facts range
-        parses.now parse_text.now rows.now links.now) k frames.old out.old at }
-    ensures keeps { Keeps k frames.old frames.new (begin_of frames.old k)
-        out.old out.new }
-    ensures template_of { TemplateOf
-        (rules_of directory.now words.now bytes.now (length fact_text.now))
-        (field rows.now k 1) (link_word links.now k 2) result.template spare.new }
-    ensures row_left { (W : World) (facts : List ℕ) (range : Restriction) → AtRow W
-        (handed_of directory.now words.now bytes.now fact_text.now
-        tree.now text.now facts range parses.now parse_text.now
-        rows.now links.now) k
-        frames.old out.old at
-        → RowLeft W k frames.old frames.new out.old out.new result.step }
+) -> Result<Step, Event>
+    requires at_hand { AtHand handed.now.rules at_hand.old tables.old.pieces }
+    requires fits { length out.old ≤ 1048576 }
+    requires at_row { (W : World) × AtRow W handed.now k frames.old out.old at }
+    ensures keeps { Keeps k frames.old frames.new (frame_of frames.old k).begin out.old out.new }
+    ensures at_hand { AtHand handed.now.rules at_hand.new tables.new.pieces }
+    ensures low { came (frame_of frames.old k) < 33556480 }
+    ensures row_left { RowLeft handed.now k frames.old out.old at frames.new out.new result }
 {
-    let number = matches::word(rows, k, 1) as usize;
-    let module = link(links, k, 2);
-    let end = link(links, k, 0) as usize;
+    let row = row_of(handed.rows, k);
     let template = readying::make_ready(
-        directory,
-        words,
-        bytes,
-        fact_text.len(),
-        number,
-        module,
-        was,
-        index,
-        spare,
-        paths,
-        calls,
+        handed.rules,
+        row.rule as usize,
+        row.module,
+        *at_hand,
+        &mut tables.matching.resolving,
+        &mut tables.pieces,
     );
-    let pair = template.pair;
-    let row = pairs::row_at(directory, pair);
-    let b = pairs::bytes_at(directory, bytes, pair);
-    let code = pairs::code(row, b, 1);
-    let n = template.count;
-    let kind = template.kind;
-    let step = render_row(
-        rows,
-        end,
+    *at_hand = Some(template);
+    let fragments = template.fragments(&tables.pieces, handed.fact_text);
+    let matches = Matches {
+        rows: handed.rows,
+        tree: handed.file.tree,
+        text: handed.file.text,
+    };
+    render_row::<Fragments, N>(
+        matches,
+        &fragments,
+        template.kind,
+        handed.parses,
         frames,
         k,
-        tree,
-        text,
-        &spare[..n],
-        code,
-        fact_text,
-        kind,
-        parses,
-        parse_text,
-        paths,
-        calls,
         out,
         at,
-    );
-    Stepped { step, template }
+    )
 }
 
-// Where rendering goes on behind the text of row k, which ends at a place: in the row that it is nested in.
-fn go_back(rows: &[u32], k0: usize, k: usize, at: usize) -> Next
-    requires { (k ≤ 1023) × ((k ≡ k0 → ⊥) → 3 ≤ field rows.now k 2) }
-    ensures { result ≡ next_behind rows.now k0 k at }
+// The row that rendering goes on in behind the text of row k: the one that it is nested in, if it is not row k0.
+fn row_behind(rows: &[Row], k0: usize, k: usize) -> Option<usize>
+    requires { k < length rows.now }
+    ensures { result ≡ row_behind rows.now k0 k }
 {
     if k == k0 {
-        return Next::Ends(Laid::At(at));
+        return None;
     }
-    Next::Row(matches::word(rows, k, 2) as usize - 3, at)
+    match row_of(rows, k).state {
+        Nesting::Inside { row, .. } => Some(row as usize),
+        _ => None,
+    }
 }
 
 // The end of row k's text, whose comments come last.
-fn end_row(
-    directory: &[u32],
-    words: &[u32],
-    bytes: &[u8],
-    fact_bytes: usize,
-    tree: &[u32],
-    text: &[u8],
-    facts: &[u32],
-    file_index: &[u64],
-    rows: &[u32],
-    links: &[u32],
-    range: Restriction,
+#[tactic(auto, using(rows::proofs::BetweenLaws::grows_none))]
+fn end_row<const N: usize>(
+    handed: &Handed<'_, '_, N>,
     k0: usize,
     k: usize,
-    template: Template,
-    index: &mut [u64],
-    spare: &mut [u64],
-    paths: &mut [u32],
-    calls: &mut [u32],
-    marks: &mut [u32],
+    tables: &mut MatchTables<N>,
     out: &mut [u8],
     at: usize,
-) -> Turned
-    requires checked { Checked (rules_of directory.now words.now bytes.now fact_bytes)
-        × AllRoomy words.now index.old spare.old paths.old calls.old × MarksRoomy words.now marks.old }
-    requires file_of { FileOf tree.now facts.now file_index.now
-        × (is_node_of (file_of tree.now text.now facts.now) (field rows.now k 0) ≡ true)
-        × (at ≤ length out.old) × AtHand (rules_of directory.now words.now bytes.now fact_bytes) template spare.old }
-    requires k_bound { (k ≤ 1023) × ((k ≡ k0 → ⊥) → 3 ≤ field rows.now k 2) }
-    ensures at_hand { AtHand (rules_of directory.now words.now bytes.now fact_bytes) result.template
-        spare.new }
-    ensures ends_row { EndsRow rows.now k0 k out.old out.new at
-        (linked_comments (rules_of directory.now words.now bytes.now fact_bytes)
-        (file_of tree.now text.now facts.now) range rows.now links.now k) result.next }
+) -> Result<Turned, Event>
+    requires inside { (k < length handed.now.rows) × (at ≤ length out.old) }
+    requires is_node { is_node_of handed.now.file (row_at handed.now.rows k).node ≡ true }
+    ensures ended { EndedBy handed.now k0 k out.old at out.new result }
 {
-    if link(links, k, 1) == 1 {
-        let number = matches::word(rows, k, 1) as usize;
-        let node = matches::word(rows, k, 0) as usize;
-        let question = Question {
-            rule: number,
-            node,
-            range,
-        };
-        let placed = comments::put_comments(
-            directory, words, bytes, fact_bytes, tree, text, facts, file_index, question, index,
-            spare, paths, calls, marks, out, at,
-        );
-        let none = readying::no_template();
-        match placed {
-            Some(behind) => {
-                let next = go_back(rows, k0, k, behind);
-                return Turned {
-                    next,
-                    template: none,
-                };
-            }
-            None => {
-                return Turned {
-                    next: Next::Ends(Laid::NoRoom),
-                    template: none,
-                };
-            }
-        }
+    let next = row_behind(handed.rows, k0, k);
+    let row = row_of(handed.rows, k);
+    if !row.has_comments {
+        return Ok(Turned { at, next });
     }
-    let next = go_back(rows, k0, k, at);
-    Turned { next, template }
+    let behind = comments::put_comments(handed, row, tables, out, at).ok_or(Event::NoRoom)?;
+    Ok(Turned { at: behind, next })
 }
 
 // A turn of row k, which stands at a place.
-pub fn take_turn<'a>(
-    directory: &[u32],
-    words: &[u32],
-    bytes: &'a [u8],
-    fact_text: &'a [u8],
-    tree: &[u32],
-    text: &[u8],
-    facts: &[u32],
-    file_index: &[u64],
-    parses: &[u32],
-    parse_text: &[u8],
-    rows: &[u32],
-    links: &[u32],
-    range: Restriction,
-    frames: &mut [u32],
+#[tactic(auto, using(crate::proofs::TurnLaws::goes_in, crate::proofs::TurnLaws::goes_in_keeps, crate::proofs::TurnLaws::ends_turn, crate::proofs::TurnLaws::ends_keeps, crate::proofs::TurnLaws::row_ends, crate::proofs::TurnLaws::row_keeps, crate::proofs::TurnLaws::row_inside, crate::proofs::TurnLaws::row_node, crate::proofs::TurnLaws::at_row_of, crate::proofs::TurnLaws::text_fits))]
+pub fn take_turn<'a, const N: usize>(
+    handed: &Handed<'_, 'a, N>,
+    frames: &mut [Frame],
     k0: usize,
     k: usize,
-    was: Template,
-    index: &mut [u64],
-    spare: &mut [u64],
-    paths: &mut [u32],
-    calls: &mut [u32],
-    marks: &mut [u32],
+    tables: &mut RenderTables<N>,
+    at_hand: &mut Option<ReadyTemplate<'a>>,
     out: &mut [u8],
     at: usize,
-) -> Turned
-    requires checked { Checked (rules_of directory.now words.now bytes.now (length fact_text.now))
-        × Lent words.now index.old spare.old paths.old calls.old × MarksRoomy words.now marks.old
-        × FileOf tree.now facts.now file_index.now }
-    requires parses_value { (is_parse_list (length parse_text.now) parses.now ≡ true) × (length out.old ≤ 1048576)
-        × AtHand (rules_of directory.now words.now bytes.now (length fact_text.now)) was spare.old }
-    requires at_turn { (W : World) × AtTurn W
-        (handed_of directory.now words.now bytes.now fact_text.now tree.now text.now facts.now range
-        parses.now parse_text.now rows.now links.now) k0 k frames.old out.old at }
-    ensures turn_keeps { TurnKeeps k0 k frames.old frames.new out.old out.new result.next }
-    ensures at_hand { AtHand
-        (rules_of directory.now words.now bytes.now (length fact_text.now))
-        result.template spare.new }
-    ensures turn_left { (W : World) → AtTurn W
-        (handed_of directory.now words.now bytes.now fact_text.now
-        tree.now text.now facts.now range parses.now parse_text.now
-        rows.now links.now) k0 k
-        frames.old out.old at
-        → TurnLeft W
-        (handed_of directory.now words.now bytes.now fact_text.now
-        tree.now text.now facts.now range parses.now parse_text.now
-        rows.now links.now) k0
-        frames.old frames.new out.new result.next }
+) -> Result<Turned, Event>
+    requires at_hand { AtHand handed.now.rules at_hand.old tables.old.pieces }
+    requires fits { length out.old ≤ 1048576 }
+    requires at_turn { (W : World) × AtTurn W handed.now k0 k frames.old out.old at }
+    ensures turn_keeps { TurnKeeps k0 k frames.old frames.new out.old out.new result }
+    ensures at_hand { AtHand handed.now.rules at_hand.new tables.new.pieces }
+    ensures turn_left { TurnLeft handed.now k0 k frames.old out.old at frames.new out.new result }
 {
-    let r = ready_row(
-        directory, words, bytes, fact_text, tree, text, parses, parse_text, rows, links, frames, k,
-        was, index, spare, paths, calls, out, at,
-    );
-    let step = r.step;
-    let template = r.template;
-    match step {
-        Step::Ended(behind) => end_row(
-            directory,
-            words,
-            bytes,
-            fact_text.len(),
-            tree,
-            text,
-            facts,
-            file_index,
-            rows,
-            links,
-            range,
-            k0,
-            k,
-            template,
-            index,
-            spare,
-            paths,
-            calls,
-            marks,
-            out,
-            behind,
-        ),
-        Step::Nested(row, behind) => Turned {
-            next: Next::Row(row, behind),
-            template,
-        },
-        Step::Unbound => Turned {
-            next: Next::Ends(Laid::Unbound),
-            template,
-        },
-        Step::NoRoom => Turned {
-            next: Next::Ends(Laid::NoRoom),
-            template,
-        },
-        Step::Asked(from, to) => Turned {
-            next: Next::Ends(Laid::Asked(template.kind, from, to)),
-            template,
-        },
+    match ready_row(handed, frames, k, tables, at_hand, out, at)? {
+        Step::At(behind) => end_row(handed, k0, k, &mut tables.matching, out, behind),
+        Step::Nested { row, at: behind } => Ok(Turned {
+            at: behind,
+            next: Some(row),
+        }),
     }
 }

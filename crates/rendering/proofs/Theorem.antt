@@ -12,14 +12,16 @@ use Rattle.words.specs.Texts.{part, open_text, close_text}
 use Rattle.syntax.specs.Trees.{Elems}
 use Rattle.captures.specs.declared.Binding.{Binding}
 use Rattle.parses.specs.Ranges.{NodeRange}
-use Rattle.parses.specs.Parses.{Lookup, missing, handed, lookup}
+use Rattle.parses.specs.Parses.{lookup}
 use Rattle.parentheses.specs.Parentheses.{Part, requires, wrapped}
 use Rattle.nester.specs.Matches.{Match}
 use Rattle.nester.specs.Nest.{Nest, none, kept}
 use Rattle.nester.specs.Places.{Item, before, insert, items}
-use Rattle.rendering.specs.Events.{Unbound, Asked, Out, fine, event, after, Text, lay, ◌and_then◌, in_turn, concat}
+use Rattle.std.specs.Prelude.{Option, None, Some, Result, Ok, Err}
+use Rattle.std.specs.List.{concat}
+use Rattle.rendering.specs.Events.{Event, Unbound, Asked, after, Text, lay, ◌and_then◌, in_turn}
 use Rattle.rendering.specs.Texts.{Fragment, fixed, captured, Setting, binding_at, prefix, is_parsed, enclosed, enclosed_each, parts_of, filled, captured_text, fragment_text, fragment_texts, rendered_again, judged, finished, rendered}
-use Rattle.rendering.specs.Traces.{Trace, done, stopped, within, reach, ◌then◌, Traces, all, stops, first, fragment_trace, traces_of, hole_trace, judged_trace, finished_trace, match_trace, filled_trace, slot_trace, rendered_trace}
+use Rattle.rendering.specs.Traces.{Trace, stopped, within, reach, ◌then◌, Traces, first, fragment_trace, traces_of, hole_trace, judged_trace, finished_trace, match_trace, filled_trace, slot_trace, rendered_trace}
 use Rattle.rendering.proofs.RoomLaws.{in_room-fits, in_room-after, in_room-again, outcome, within-reach, within-fits, within_then, length-concat, within_traces, joined, joined-done, joined-all, in_turn_within}
 
 -- ---- what is needed of parentheses
@@ -48,14 +50,14 @@ parenthesised [] ts = ts
 parenthesised (m ∷ ms) [] = []
 parenthesised (m ∷ ms) (t ∷ ts) = in_parentheses m t ∷ parenthesised ms ts
 
-enclosed-done : (m : Bool) (t : List ℕ) → enclosed m (within (done t)) ≡ within (done (in_parentheses m t))
+enclosed-done : (m : Bool) (t : List ℕ) → enclosed m (within (Ok t)) ≡ within (Ok (in_parentheses m t))
 unfolding ◌then◌
 enclosed-done true t =
-    ap (λ (a : Text). a and_then lay close_text) (within_then (done open_text) (done t)) ∙ within_then (done (open_text ++ t)) (done close_text)
+    ap (λ (a : Text). a and_then lay close_text) (within_then (Ok open_text) (Ok t)) ∙ within_then (Ok (open_text ++ t)) (Ok close_text)
 enclosed-done false t = refl
 
 enclosed_each-done : (ms : List Bool) (ts : List (List ℕ))
-    → enclosed_each ms (map within (map done ts)) ≡ map within (map done (parenthesised ms ts))
+    → enclosed_each ms (map within (map Ok ts)) ≡ map within (map Ok (parenthesised ms ts))
 unfolding enclosed_each parenthesised
 enclosed_each-done [] ts = refl
 enclosed_each-done (m ∷ ms) [] = refl
@@ -64,7 +66,7 @@ enclosed_each-done (m ∷ ms) (t ∷ ts) = rw (enclosed-done m t, enclosed_each-
 -- in turn they are the first rendering with parentheses put in
 concat-parenthesised : (fs : List Fragment) (ts : List (List ℕ)) (ms : List Bool) → length fs ≡ length ts → length ms ≡ length ts
     → concat (parenthesised ms ts) ≡ wrapped (parts_of fs ts) ms (concat ts)
-unfolding concat parenthesised parts_of
+unfolding parenthesised parts_of
 concat-parenthesised [] [] [] h k = sym (wrapped_end [])
 concat-parenthesised [] [] (m ∷ ms) h k = absurd (omega arith)
 concat-parenthesised [] (t ∷ ts) ms h k = absurd (omega arith)
@@ -101,22 +103,16 @@ module _ (S : Setting) where
   unfolding filled filled_trace
   filled_within from to [] = refl
   filled_within from to (x ∷ xs) =
-      let front : Trace = done (part S.file from (S.start_of x.node)) in
+      let front : Trace = Ok (part S.file from (S.start_of x.node)) in
       let rest : Trace = filled_trace S (S.end_of x.node) to xs in
       rw (filled_within (S.end_of x.node) to xs)
       (ap (λ (a : Text). a and_then within rest) (within_then front x.what) ∙ within_then (front then x.what) rest)
 
-  captured-within : (b : Binding) (is_receiver : Bool) (xs : List (Item Trace))
-      → captured_text S b is_receiver (map as_text xs) ≡ within (hole_trace b is_receiver (filled_trace S b.start b.end xs))
-  captured-within b is_receiver xs = rw (filled_within b.start b.end xs) (by b.bound)
-    where
-      filling : Trace
-      filling = filled_trace S b.start b.end xs
-
-      by : (bound : Bool) → cond bound (lay (prefix b is_receiver) and_then within filling) (λ room. event Unbound)
-          ≡ within (cond bound (done (prefix b is_receiver) then filling) (stopped 0 Unbound))
-      by true = within_then (done (prefix b is_receiver)) filling
-      by false = fun_ext (λ room. sym (in_room-fits 0 (event Unbound) room (omega arith)))
+  captured-within : (b : Option Binding) (is_receiver : Bool) (xs : List (Item Trace))
+      → captured_text S b is_receiver (map as_text xs) ≡ within (hole_trace b is_receiver (λ from to. filled_trace S from to xs))
+  captured-within None is_receiver xs = fun_ext (λ room. sym (in_room-fits 0 (Err Unbound) room (omega arith)))
+  captured-within (Some b) is_receiver xs =
+      rw (filled_within b.start b.end xs) (within_then (Ok (prefix b is_receiver)) (filled_trace S b.start b.end xs))
 
 -- ---- the text of a match
 
@@ -125,9 +121,9 @@ unfolding traces_of joined
 traces_of-joined hole [] = refl
 traces_of-joined hole (f ∷ fs) = ap (first (fragment_trace hole f)) (traces_of-joined hole fs)
 
-after_assoc : {A B C : Type 0} (o : Out A) (f : A → Out B) (g : B → Out C) → (after o λ x. after (f x) g) ≡ after (after o f) g
-after_assoc (fine x) f g = refl
-after_assoc (event e) f g = refl
+after_assoc : {A B C : Type 0} (o : Result A Event) (f : A → Result B Event) (g : B → Result C Event) → (after o λ x. after (f x) g) ≡ after (after o f) g
+after_assoc (Ok x) f g = refl
+after_assoc (Err e) f g = refl
 
 module _ (S : Setting) (m : Match) (inner : ℕ → List (Item Trace)) where
   abbrev kind : ℕ
@@ -136,7 +132,7 @@ module _ (S : Setting) (m : Match) (inner : ℕ → List (Item Trace)) where
   abbrev fs : List Fragment
   fs = S.fragments m
 
-  abbrev parse : ℕ → List ℕ → Lookup
+  abbrev parse : ℕ → List ℕ → Option (List NodeRange)
   parse k t = lookup S.parses k t
 
   abbrev hole : ℕ → Bool → Trace
@@ -158,9 +154,9 @@ module _ (S : Setting) (m : Match) (inner : ℕ → List (Item Trace)) where
   fragments_within = ap (λ f. map f fs) (fun_ext fragment_within) ∙ sym (map-map within (fragment_trace hole) fs)
 
   -- no fragment stops: every one has its text
-  module _ (ts : List (List ℕ)) (e : us ≡ map done ts) where
+  module _ (ts : List (List ℕ)) (e : us ≡ map Ok ts) where
     as_many : length fs ≡ length ts
-    as_many = sym (length-map fs (fragment_trace hole)) ∙ ap length e ∙ length-map ts done
+    as_many = sym (length-map fs (fragment_trace hole)) ∙ ap length e ∙ length-map ts Ok
 
     -- the second rendering
     module _ (r : NodeRange) (rs : List NodeRange) where
@@ -173,53 +169,53 @@ module _ (S : Setting) (m : Match) (inner : ℕ → List (Item Trace)) where
       second : concat (parenthesised marks ts) ≡ wrapped (parts_of fs ts) marks (concat ts)
       second = concat-parenthesised fs ts marks as_many length-marks
 
-      again-within : (room : ℕ) → rendered_again S m texts marks room ≡ within (done (wrapped (parts_of fs ts) marks (concat ts))) room
+      again-within : (room : ℕ) → rendered_again S m texts marks room ≡ within (Ok (wrapped (parts_of fs ts) marks (concat ts))) room
       again-within room =
           let ps : List (List ℕ) = parenthesised marks ts in
-          rw (fragments_within, e, enclosed_each-done marks ts, in_turn_within (map done ps) room, joined-done ps, ← second)
-          (in_room-after (length (concat ps)) (fine ps) (λ xs. fine (concat xs)) room)
+          rw (fragments_within, e, enclosed_each-done marks ts, in_turn_within (map Ok ps) room, joined-done ps, ← second)
+          (in_room-after (length (concat ps)) (Ok ps) (λ xs. Ok (concat xs)) room)
 
       again_longer : length (concat ts) ≤ length (wrapped (parts_of fs ts) marks (concat ts))
       again_longer = rw (← second) (longer marks ts length-marks)
 
     -- what becomes of the first rendering
-    judged-within : (v : Lookup) (room : ℕ) → length (concat ts) ≤ room
+    judged-within : (v : Option (List NodeRange)) (room : ℕ) → length (concat ts) ≤ room
         → judged S m texts ts v room ≡ within (judged_trace kind fs ts v) room
-    judged-within missing room h = sym (within-fits (stopped (length (concat ts)) (Asked kind (concat ts))) room h)
-    judged-within (handed []) room h = sym (within-fits (done (concat ts)) room h)
-    judged-within (handed (r ∷ rs)) room h = again-within r rs room
+    judged-within None room h = sym (within-fits (stopped (length (concat ts)) (Asked kind (concat ts))) room h)
+    judged-within (Some []) room h = sym (within-fits (Ok (concat ts)) room h)
+    judged-within (Some (r ∷ rs)) room h = again-within r rs room
 
-    judged_longer : (v : Lookup) → length (concat ts) ≤ reach (judged_trace kind fs ts v)
-    judged_longer missing = omega arith
-    judged_longer (handed []) = omega arith
-    judged_longer (handed (r ∷ rs)) = again_longer r rs
+    judged_longer : (v : Option (List NodeRange)) → length (concat ts) ≤ reach (judged_trace kind fs ts v)
+    judged_longer None = omega arith
+    judged_longer (Some []) = omega arith
+    judged_longer (Some (r ∷ rs)) = again_longer r rs
 
     abbrev last : Trace
-    last = finished_trace kind fs parse (all ts)
+    last = finished_trace kind fs parse (Ok ts)
 
     finished-fits : (room : ℕ) → length (concat ts) ≤ room → finished S m texts ts room ≡ within last room
     finished-fits room h = by (is_parsed kind)
       where
-        v : Lookup
+        v : Option (List NodeRange)
         v = parse kind (concat ts)
 
-        by : (b : Bool) → cond b (judged S m texts ts v room) (fine (concat ts))
-            ≡ within (cond b (judged_trace kind fs ts v) (done (concat ts))) room
+        by : (b : Bool) → cond b (judged S m texts ts v room) (Ok (concat ts))
+            ≡ within (cond b (judged_trace kind fs ts v) (Ok (concat ts))) room
         by true = judged-within v room h
-        by false = sym (within-fits (done (concat ts)) room h)
+        by false = sym (within-fits (Ok (concat ts)) room h)
 
     finished_longer : length (concat ts) ≤ reach last
     finished_longer = by (is_parsed kind)
       where
-        by : (b : Bool) → length (concat ts) ≤ reach (cond b (judged_trace kind fs ts (parse kind (concat ts))) (done (concat ts)))
+        by : (b : Bool) → length (concat ts) ≤ reach (cond b (judged_trace kind fs ts (parse kind (concat ts))) (Ok (concat ts)))
         by true = judged_longer (parse kind (concat ts))
         by false = omega arith
 
   finished-within : (u : Traces) → traces_of hole fs ≡ u → (room : ℕ)
       → (after (within_traces u room) λ ts. finished S m texts ts room) ≡ within (finished_trace kind fs parse u) room
-  finished-within (stops n v) e room = in_room-after n (event v) (λ ts. finished S m texts ts room) room
-  finished-within (all ts) e room =
-      let d : us ≡ map done ts = joined-all us ts (sym (traces_of-joined hole fs) ∙ e) in
+  finished-within (Err s) e room = in_room-after s.at (Err s.event) (λ ts. finished S m texts ts room) room
+  finished-within (Ok ts) e room =
+      let d : us ≡ map Ok ts = joined-all us ts (sym (traces_of-joined hole fs) ∙ e) in
       let t : Trace = last ts d in
       in_room-again (length (concat ts)) (reach t) room ts (λ xs. finished S m texts xs room) (outcome t) (finished_longer ts d)
       (λ h. finished-fits ts d room h ∙ within-reach t room)
@@ -233,8 +229,8 @@ module _ (S : Setting) (m : Match) (inner : ℕ → List (Item Trace)) where
       rw (fragments_within, traces_of-joined hole fs) (in_turn_within us room) in
       rw e
       (after_assoc (within_traces v room) (λ ts. finished S m texts ts room)
-      (λ t. after (lay m.comments (room - length t)) λ c. fine (t ++ c))
-      ∙ rw (finished-within v refl room) (ap (λ (t : Text). t room) (within_then (finished_trace kind fs parse v) (done m.comments))))
+      (λ t. after (lay m.comments (room - length t)) λ c. Ok (t ++ c))
+      ∙ rw (finished-within v refl room) (ap (λ (t : Text). t room) (within_then (finished_trace kind fs parse v) (Ok m.comments))))
 
 -- ---- a collection
 

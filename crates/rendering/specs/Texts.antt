@@ -1,17 +1,19 @@
 -- `render_replace` of docs/src/src/replacing.rs, as document 01 lays it: "Every byte is laid where it will stand: an edit's three words before
 -- its text, a captured text with parenthesis, prefix and nested replacements in turn. A second rendering begins where the first did."
 -- Assumes nothing.
-use Rattle.std.specs.Prelude.{ℕ, zero, suc, ◌-◌, Bool, true, false, cond, List, [], ◌∷◌, ◌++◌, map, eqb, length, replicate}
+use Rattle.std.specs.Prelude.{ℕ, ◌-◌, Bool, true, false, cond, List, [], ◌∷◌, ◌++◌, map, length, get_or, replicate, Option, None, Some, Result, Ok, Err}
+use Rattle.std.specs.List.{concat}
 use Rattle.words.specs.Texts.{part, open_text, close_text}
 use Rattle.syntax.specs.Accessors.{between}
 use Rattle.captures.specs.declared.Binding.{Binding}
-use Rattle.captures.specs.Effects.{unbound}
+use Rattle.captures.specs.declared.SelfKind.{SelfKind}
+use Rattle.captures.specs.declared.SelfKind.TheVariants.{Owned, Ref, RefMut}
 use Rattle.parses.specs.Ranges.{NodeRange}
-use Rattle.parses.specs.Parses.{Parse, Lookup, missing, handed, lookup}
+use Rattle.parses.specs.Parses.{Parse, lookup}
 use Rattle.parentheses.specs.Parentheses.{Part, requires}
 use Rattle.nester.specs.Matches.{Match}
 use Rattle.nester.specs.Places.{Item}
-use Rattle.rendering.specs.Events.{Event, Unbound, NoRoom, Asked, Out, fine, event, after, Text, lay, ◌and_then◌, in_turn, concat}
+use Rattle.rendering.specs.Events.{Event, Unbound, Asked, after, Text, lay, ◌and_then◌, in_turn}
 
 -- a template in turn: bytes, or a placeholder by its place in the pattern
 pub data Fragment : Type 0 where
@@ -29,15 +31,15 @@ pub record Setting : Type 0 where
   pub parses : List Parse
 
 -- the binding of a placeholder
-unfoldable pub binding_at : ℕ → List Binding → Binding
-binding_at slot [] = unbound
-binding_at zero (b ∷ bs) = b
-binding_at (suc slot) (b ∷ bs) = binding_at slot bs
+abbrev pub binding_at : ℕ → List (Option Binding) → Option Binding
+binding_at slot bindings = get_or bindings slot None
 
 -- "Prefixes are the bytes `&` or `&mut `, then stars": "If a method call is performed directly on the placeholder, then autoderef and
 -- autoref will apply"
-abbrev pub reference : ℕ → List ℕ
-reference kind = cond (eqb kind 1) (38 ∷ []) (cond (eqb kind 2) (38 ∷ 109 ∷ 117 ∷ 116 ∷ 32 ∷ []) [])
+abbrev pub reference : SelfKind → List ℕ
+reference Owned = []
+reference Ref = 38 ∷ []
+reference RefMut = 38 ∷ 109 ∷ 117 ∷ 116 ∷ 32 ∷ []
 
 abbrev pub prefix : Binding → Bool → List ℕ
 prefix b is_receiver = cond is_receiver [] (reference b.self_kind ++ replicate b.stars 42)
@@ -73,8 +75,9 @@ module _ (S : Setting) where
   filled from to (x ∷ xs) = lay (part S.file from (S.start_of x.node)) and_then x.what and_then filled (S.end_of x.node) to xs
 
   -- a placeholder's captured text: 29 where it is unbound
-  abbrev pub captured_text : Binding → Bool → List (Item Text) → Text
-  captured_text b is_receiver inner = cond b.bound (lay (prefix b is_receiver) and_then filled b.start b.end inner) (λ room. event Unbound)
+  abbrev pub captured_text : Option Binding → Bool → List (Item Text) → Text
+  captured_text None is_receiver inner = λ room. Err Unbound
+  captured_text (Some b) is_receiver inner = lay (prefix b is_receiver) and_then filled b.start b.end inner
 
   abbrev pub fragment_text : Match → (ℕ → List (Item Text)) → Fragment → Text
   fragment_text m inner (fixed bs) = lay bs
@@ -84,20 +87,20 @@ module _ (S : Setting) where
   fragment_texts m inner = map (fragment_text m inner) (S.fragments m)
 
   -- `maybe_rerender_with_extra_parenthesis`, of a first rendering in parts: it is asked for, it does not parse, or it is rendered again
-  abbrev pub rendered_again : Match → (ℕ → List (Item Text)) → List Bool → ℕ → Out (List ℕ)
-  rendered_again m inner marks room = after (in_turn (enclosed_each marks (fragment_texts m inner)) room) λ ts. fine (concat ts)
+  abbrev pub rendered_again : Match → (ℕ → List (Item Text)) → List Bool → ℕ → Result (List ℕ) Event
+  rendered_again m inner marks room = after (in_turn (enclosed_each marks (fragment_texts m inner)) room) λ ts. Ok (concat ts)
 
-  abbrev pub judged : Match → (ℕ → List (Item Text)) → List (List ℕ) → Lookup → ℕ → Out (List ℕ)
-  judged m inner ts missing room = event (Asked (S.kind m) (concat ts))
-  judged m inner ts (handed []) room = fine (concat ts)
-  judged m inner ts (handed (r ∷ rs)) room = rendered_again m inner (requires (r ∷ rs) 0 (parts_of (S.fragments m) ts)) room
+  abbrev pub judged : Match → (ℕ → List (Item Text)) → List (List ℕ) → Option (List NodeRange) → ℕ → Result (List ℕ) Event
+  judged m inner ts None room = Err (Asked (S.kind m) (concat ts))
+  judged m inner ts (Some []) room = Ok (concat ts)
+  judged m inner ts (Some (r ∷ rs)) room = rendered_again m inner (requires (r ∷ rs) 0 (parts_of (S.fragments m) ts)) room
 
-  abbrev pub finished : Match → (ℕ → List (Item Text)) → List (List ℕ) → ℕ → Out (List ℕ)
+  abbrev pub finished : Match → (ℕ → List (Item Text)) → List (List ℕ) → ℕ → Result (List ℕ) Event
   finished m inner ts room =
-      cond (is_parsed (S.kind m)) (judged m inner ts (lookup S.parses (S.kind m) (concat ts)) room) (fine (concat ts))
+      cond (is_parsed (S.kind m)) (judged m inner ts (lookup S.parses (S.kind m) (concat ts)) room) (Ok (concat ts))
 
   -- `render_replace`: the first rendering, the second in the same room, and then the comments
   abbrev pub rendered : Match → (ℕ → List (Item Text)) → Text
   rendered m inner room =
       after (in_turn (fragment_texts m inner) room) λ ts. after (finished m inner ts room) λ t.
-      after (lay m.comments (room - length t)) λ c. fine (t ++ c)
+      after (lay m.comments (room - length t)) λ c. Ok (t ++ c)

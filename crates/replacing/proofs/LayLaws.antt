@@ -6,8 +6,8 @@ use Prim.Native.Nat.{ℕ, ◌+◌}
 use native.Mathlib.Omega.{arith}
 use lib.ListN.{length, take, length-append}
 use lib.Seq.{take-take}
+use Rattle.std.specs.Prelude.{Option, Some, None}
 use Rattle.words.specs.Buffer.{place_after, laid_if_room}
-use Rattle.std.proofs.Common.{Option, Some, None}
 use Rattle.words.proofs.BufferLaws.{placed_at, placed_full}
 use Rattle.rows.specs.Frames.{Grows}
 use Rattle.rows.proofs.BetweenLaws.{length-between, grows_laid, grows_trans}

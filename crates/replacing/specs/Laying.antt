@@ -13,8 +13,3 @@ pub record Short (out out' : List ℕ) (at : ℕ) (bs : List ℕ) : Type 0 where
 abbrev pub Lays : List ℕ → ℕ → List ℕ → List ℕ → Option ℕ → Type 0
 Lays out at bs out' (Some at') = Grows out out' at at' bs
 Lays out at bs out' None = Short out out' at bs
-
--- and the frames then, by the place behind the bytes
-abbrev pub FramesThen : List ℕ → (ℕ → List ℕ) → List ℕ → Option ℕ → Type 0
-FramesThen frames after frames' (Some at') = frames' ≡ after at'
-FramesThen frames after frames' None = frames' ≡ frames

@@ -6,92 +6,86 @@
 // The parts are what the operation is handed, in the order of its parameters, each word as a number and of a buffer its length, then
 // the buffer after the call, if there is one, and the expected answer: the fields of the exported struct in their order. Both are
 // stored up to the last byte that is not 0.
-ghost use Rattle.std.specs.Prelude.{◌≡◌, ◌<◌, ◌≤◌, length, take, true, IfOk};
+ghost use Rattle.std.specs.Prelude.{◌≡◌, ◌<◌, ◌≤◌, length, take, true, IfOk, IfSome};
 ghost use Rattle.std.specs.Io.KnownBytes.{Consumes};
 ghost use Rattle.replaying.specs.Records.{number_of, TakesRecord};
 
+use arrayvec::ArrayVec;
 use std::io;
 use std::io::{ErrorKind, Read};
 use words::slices;
 
-// A byte as a number.
-fn wide(b: u8) -> usize
-    ensures range { result < 256 }
-    ensures value { result ≡ b }
-{
-    b as usize
-}
-
 // The number that bytes begin with, 0 where there are no four.
 #[tactic(auto, unfolding(crate::specs::Records::number_of))]
-pub fn number(s: &[u8]) -> usize
-    ensures range { result < 4294967296 }
+pub fn number(s: &[u8]) -> u32
     ensures value { 4 ≤ length s.now → result ≡ number_of s.now }
     ensures cut_off { length s.now < 4 → result ≡ 0 }
 {
-    if s.len() < 4 {
-        return 0;
+    match s.first_chunk::<4>() {
+        Some(bytes) => u32::from_le_bytes(*bytes),
+        None => 0,
     }
-    wide(s[0]) + 256 * wide(s[1]) + 65536 * wide(s[2]) + 16777216 * wide(s[3])
 }
 
-// The bytes from a place on, none past the end.
-pub fn from(s: &[u8], at: usize) -> &[u8] {
-    if s.len() < at {
-        return &s[..0];
+// The parts of a record.
+#[derive(Clone, Copy)]
+pub struct Parts<'a> {
+    bytes: &'a [u8],
+}
+
+impl<'a> Parts<'a> {
+    // The first, empty where it is cut off, and those behind it.
+    fn split(self) -> (&'a [u8], Parts<'a>) {
+        let end = 4 + number(self.bytes) as usize;
+        let rest = Parts {
+            bytes: slices::tail(self.bytes, end),
+        };
+        (slices::part_of(self.bytes, 4, end), rest)
     }
-    &s[at..]
-}
 
-// The first of some parts, empty where it is cut off.
-fn first(parts: &[u8]) -> &[u8] {
-    slices::part_of(parts, 4, 4 + number(parts))
-}
-
-// The parts behind the first.
-fn behind(parts: &[u8]) -> &[u8] {
-    from(parts, 4 + number(parts))
-}
-
-// A part by its place, the first at 0.
-pub fn part(parts: &[u8], at: usize) -> &[u8] {
-    let mut left = parts;
-    for _ in 0..at {
-        left = behind(left);
-    }
-    first(left)
-}
-
-// The number that the part at a place is.
-pub fn number_at(parts: &[u8], at: usize) -> usize {
-    number(part(parts, at))
-}
-
-// The same as a word.
-pub fn word_at(parts: &[u8], at: usize) -> u32 {
-    number(part(parts, at)) as u32
-}
-
-// The words of a part, as many as there is room for: how many these are.
-fn words(part: &[u8], out: &mut [u32]) -> usize
-    ensures { result ≤ length out.new }
-{
-    let mut left = part;
-    for i in 0..out.len() {
-        if left.len() < 4 {
-            return i;
+    // A part by its place, the first at 0.
+    pub fn at(self, place: usize) -> &'a [u8] {
+        let mut left = self;
+        for _ in 0..place {
+            left = left.split().1;
         }
-        out[i] = number(left) as u32;
-        left = from(left, 4);
+        left.split().0
     }
-    out.len()
+
+    // The number that the part at a place is.
+    pub fn number(self, place: usize) -> u32 {
+        number(self.at(place))
+    }
+
+    // The words of the part at a place, as many as there is room for.
+    pub fn words<const N: usize>(self, place: usize) -> ArrayVec<u32, N> {
+        let mut words = ArrayVec::new();
+        for bytes in self.at(place).chunks_exact(4) {
+            if words.try_push(number(bytes)).is_err() {
+                break;
+            }
+        }
+        words
+    }
 }
 
-// The same for the part at a place.
-pub fn words_at(parts: &[u8], at: usize, out: &mut [u32]) -> usize
-    ensures { result ≤ length out.new }
-{
-    words(part(parts, at), out)
+// A record: the number of its operation, and its parts.
+#[derive(Clone, Copy)]
+pub struct Record<'a> {
+    pub operation: u32,
+    pub parts: Parts<'a>,
+}
+
+impl<'a> Record<'a> {
+    // The record that bytes are.
+    pub fn new(bytes: &'a [u8]) -> Record<'a> {
+        Record {
+            operation: number(bytes),
+            parts: Parts {
+                bytes: slices::tail(bytes, 4),
+            },
+        }
+    }
 }
 
 // Fills a buffer from the sample; false where the sample ends before.
@@ -100,31 +94,27 @@ fn is_filled<R: Read>(sample: &mut R, out: &mut [u8]) -> io::Result<bool>
 {
     match sample.read_exact(out) {
         Ok(()) => Ok(true),
-        Err(e) => {
-            if e.kind() == ErrorKind::UnexpectedEof {
-                return Ok(false);
-            }
-            Err(e)
-        }
+        Err(e) if e.kind() == ErrorKind::UnexpectedEof => Ok(false),
+        Err(e) => Err(e),
     }
 }
 
-// Reads the next record, without its length: how many bytes it has. 0 is for the end of the sample, and for a record that is cut
-// off or has no room.
-pub fn read<R: Read>(sample: &mut R, out: &mut [u8]) -> io::Result<usize>
-    ensures in_room { IfOk result (λ n. n ≤ length out.new) }
-    ensures taken { IfOk result (λ n. 0 < n → TakesRecord (R.remaining sample.old) (R.remaining sample.new) (take n out.new)) }
+// Reads the next record, without its length: how many bytes it has. None is for the end of the sample, and for a record that is
+// empty, is cut off or has no room.
+pub fn read<R: Read>(sample: &mut R, out: &mut [u8]) -> io::Result<Option<usize>>
+    ensures in_room { IfOk result (λ r. IfSome r (λ n. n ≤ length out.new)) }
+    ensures taken { IfOk result (λ r. IfSome r (λ n. TakesRecord (R.remaining sample.old) (R.remaining sample.new) (take n out.new))) }
 {
-    let mut head = [0u8; 4];
+    let mut head = [0; 4];
     if !is_filled(sample, &mut head)? {
-        return Ok(0);
+        return Ok(None);
     }
-    let size = number(&head);
-    if out.len() < size {
-        return Ok(0);
+    let size = number(&head) as usize;
+    if (size == 0) | (out.len() < size) {
+        return Ok(None);
     }
-    if is_filled(sample, &mut out[0..size])? {
-        return Ok(size);
+    if is_filled(sample, &mut out[..size])? {
+        return Ok(Some(size));
     }
-    Ok(0)
+    Ok(None)
 }

@@ -1,160 +1,169 @@
 -- How a first rendering ends: laws of a row whose fragments are all passed.
 -- Assumes nothing.
-use mathlib.Core.Path.{◌≡◌, refl, sym, ap, ap₂, subst₂, ◌∙◌}
+use mathlib.Core.Path.{◌≡◌, refl, sym, ap, ap₂, ◌∙◌}
 use mathlib.Core.Bool.{Bool, true, false, cond}
 use mathlib.Core.List.{List, [], ◌∷◌, ◌++◌}
-use Prim.Native.Nat.{ℕ, ◌+◌, ◌-◌, ◌*◌, ◌<◌, ◌≤◌}
+use Prim.Native.Nat.{ℕ, ◌-◌, ◌<◌}
 use native.Mathlib.Omega.{arith}
-use lib.Dec.{leb}
-use borrow.Author.Tests.{leb-true, leb-false}
-use lib.ListN.{length, take, drop, length-append, length-drop}
+use lib.ListN.{length, take, length-append, length-drop}
 use lib.Seq.{take-length}
-use Rattle.words.specs.Buffer.{laid}
-use Rattle.words.specs.Texts.{part}
-use Rattle.parses.specs.Ranges.{NodeRange, ranges_of}
-use Rattle.parses.specs.Parses.{Lookup, missing, handed, parses_of, lookup}
-use Rattle.parses.specs.Answers.{found_is}
-use Rattle.parses.specs.declared.Found.{Found}
-use Rattle.parentheses.specs.Parentheses.{total}
-use Rattle.rendering.specs.Events.{Asked, concat}
-use Rattle.rendering.specs.Texts.{Fragment, captured, is_parsed, parts_of}
-use Rattle.rendering.specs.Traces.{Trace, done, stopped, ◌then◌, all, traces_of, judged_trace, match_trace}
-use Rattle.rows.specs.Told.{fragments_of}
+use Rattle.std.specs.Prelude.{Option, None, Some, ok_or, Result, Ok, Err}
+use Rattle.std.specs.List.{concat}
+use Rattle.words.specs.Buffer.{place_after, laid, laid_if_room}
+use Rattle.words.proofs.BufferLaws.{placed_at, placed_full}
+use Rattle.captures.specs.declared.Binding.{Binding}
+use Rattle.parses.specs.Ranges.{NodeRange, ranges_in}
+use Rattle.parses.specs.Parses.{Parse, lookup}
+use Rattle.parentheses.specs.Parentheses.{Part, total}
+use Rattle.rendering.specs.Events as events
+use Rattle.rendering.specs.Texts.{Fragment, is_parsed, parts_of}
+use Rattle.rendering.specs.Traces.{Trace, stopped, ◌then◌, traces_of, judged_trace, match_trace}
+use Rattle.rows.specs.declared.frames.Frame.{Frame}
 use Rattle.rows.specs.Rows.{World, slot_hole, row_trace}
-use Rattle.rows.specs.Frames.{begin_of, passed_of, between, Begun, Ends}
+use Rattle.rows.specs.Frames.{between, Begun, Ends, Bursts}
 use Rattle.rows.proofs.BetweenLaws.{length-between, grows_laid}
-use Rattle.rerendering.specs.Parts.{part_word, measured_parts, AllMeasurable}
-use Rattle.rerendering.specs.declared.Ended.{Ended}
-use Rattle.rerendering.specs.declared.Ended.TheVariants.{At, NoRoom}
-use Rattle.rerendering.specs.Endings.{rendered_again, PutAgain, Shows, Rendered, Answers}
-use Rattle.rerendering.proofs.PartLaws.{EachStands, word_low, captured_rises, parts_are, total_is}
-use Rattle.rerendering.proofs.FoundLaws.{range_words, found-missing, found-handed, found_none, found_some, found-words}
+use Rattle.replacing.specs.declared.Event.{Event}
+use Rattle.replacing.specs.declared.Event.TheVariants.{NoRoom, Asked}
+use Rattle.rerendering.specs.Parts.{measured_parts}
+use Rattle.rerendering.specs.Endings.{rendered_again, PutAgain, Shows, Rendered, Answers, Ended}
+use Rattle.rerendering.proofs.PartLaws.{EachStands, parts_are, total_is}
 
 -- a rendering in these texts goes by the parse of all of them
-match_is : (kind : ℕ) (fs : List Fragment) (comments : List ℕ) (parse : ℕ → List ℕ → Lookup) (hole : ℕ → Bool → Trace) (ts : List (List ℕ))
-    → traces_of hole fs ≡ all ts
-    → match_trace kind fs comments parse hole ≡ (cond (is_parsed kind) (judged_trace kind fs ts (parse kind (concat ts))) (done (concat ts)) then done comments)
+match_is : (kind : ℕ) (fs : List Fragment) (comments : List ℕ) (parse : ℕ → List ℕ → Option (List NodeRange)) (hole : ℕ → Bool → Trace) (ts : List (List ℕ))
+    → traces_of hole fs ≡ Ok ts
+    → match_trace kind fs comments parse hole ≡ (cond (is_parsed kind) (judged_trace kind fs ts (parse kind (concat ts))) (Ok (concat ts)) then Ok comments)
 unfolding match_trace
 match_is kind fs comments parse hole ts h = rw h
 
-module _ {W : World} {rows frames : List ℕ} {k : ℕ} {table code fact_text : List ℕ} {kind : ℕ} {parses parse_text out : List ℕ} {at : ℕ}
-    (s : Shows W rows frames k table code fact_text kind parses parse_text out at) where
-  abbrev begun : Begun W k frames out at
+module _ {W : World} {k : ℕ} {bindings : List (Option Binding)} {f : Frame} {xs : List Fragment} {kind : ℕ} {parses : List Parse} {out : List ℕ} {at : ℕ}
+    (s : Shows W k bindings f xs kind parses out at) where
+  abbrev begun : Begun W k f out at
   begun = s.passing.begun
 
   abbrev texts : List (List ℕ)
   texts = begun.texts
 
   abbrev rendering : List ℕ
-  rendering = between (begin_of frames k) at out
+  rendering = between f.begin at out
 
   -- the trace of each fragment
-  traces_are : traces_of (slot_hole W k) (W.fragments k) ≡ all texts
+  traces_are : traces_of (slot_hole W k) (W.fragments k) ≡ Ok texts
   traces_are =
-      let e : take (passed_of frames k) (W.fragments k) ≡ W.fragments k = rw s.are_passed (take-length (W.fragments k)) in
+      let e : take f.passed (W.fragments k) ≡ W.fragments k = rw s.are_passed (take-length (W.fragments k)) in
       rw e at begun.are
 
   -- the row's trace goes by the parse of what stands in the buffer
-  row_is : (b : Bool) (l : Lookup) → is_parsed kind ≡ b → lookup (parses_of parses parse_text) kind rendering ≡ l
-      → row_trace W k ≡ (cond b (judged_trace (W.kind k) (W.fragments k) texts l) (done rendering) then done (W.comments k))
-  row_is b l e f =
-      let g : is_parsed (W.kind k) ≡ b = ap is_parsed s.is_kind ∙ e in
+  row_is : (b : Bool) (l : Option (List NodeRange)) → is_parsed kind ≡ b → lookup parses kind rendering ≡ l
+      → row_trace W k ≡ (cond b (judged_trace (W.kind k) (W.fragments k) texts l) (Ok rendering) then Ok (W.comments k))
+  row_is b l e g =
+      let p : is_parsed (W.kind k) ≡ b = ap is_parsed s.is_kind ∙ e in
       let h : W.parse (W.kind k) (concat texts) ≡ l =
-      ap₂ (λ (p : ℕ → List ℕ → Lookup) (n : ℕ). p n (concat texts)) s.is_parse s.is_kind ∙ (rw s.passing.laid at f) in
-      match_is (W.kind k) (W.fragments k) (W.comments k) W.parse (slot_hole W k) texts traces_are ∙ rw (g, h, s.passing.laid)
+      ap₂ (λ (p : ℕ → List ℕ → Option (List NodeRange)) (n : ℕ). p n (concat texts)) s.is_parse s.is_kind ∙ (rw s.passing.laid at g) in
+      match_is (W.kind k) (W.fragments k) (W.comments k) W.parse (slot_hole W k) texts traces_are ∙ rw (p, h, s.passing.laid)
 
-  text-length : length rendering ≡ at - begin_of frames k
-  text-length = length-between (begin_of frames k) at out begun.ends
+  text-length : length rendering ≡ at - f.begin
+  text-length = length-between f.begin at out begun.ends
 
   -- each placeholder has its slot's text in the buffer
-  each_stands : EachStands frames k (fragments_of code fact_text table)
+  each_stands : EachStands f (W.fragments k)
   each_stands i slot is_receiver others l e =
-      let f : drop i (W.fragments k) ≡ captured slot is_receiver ∷ others = ap (drop i) s.are_fragments ∙ e in
-      begun.stand i slot is_receiver others l (omega (arith, s.are_passed, ap length f, length-drop i (W.fragments k))) f
+      begun.stand i slot is_receiver others l (omega (arith, s.are_passed, ap length e, length-drop i (W.fragments k))) e
 
   -- the parts are those of the texts
-  measured : measured_parts rows frames k code fact_text table ≡ parts_of (W.fragments k) texts
-  measured =
-      ap (λ (l : List ℕ). measured_parts l frames k code fact_text table) (sym s.are_rows)
-      ∙ parts_are W k frames out at begun.ends begun.slots code fact_text table texts each_stands
-      (sym (ap (traces_of (slot_hole W k)) s.are_fragments) ∙ traces_are)
-      ∙ ap (λ (fs : List Fragment). parts_of fs texts) (sym s.are_fragments)
+  measured_is : length bindings ≡ 8 → measured_parts bindings f xs ≡ parts_of (W.fragments k) texts
+  measured_is eight =
+      ap₂ (λ (bs : List (Option Binding)) (fs : List Fragment). measured_parts bs f fs) (sym s.are_bindings) (sym s.are_fragments)
+      ∙ parts_are W k f out at begun.ends (ap length s.are_bindings ∙ eight) begun.slots (W.fragments k) texts each_stands traces_are
 
-  -- they are as long as what stands in the buffer, so their words fit
-  pub measured_total : total (measured_parts rows frames k code fact_text table) ≡ at - begin_of frames k
-  measured_total =
-      rw measured (total_is (W.fragments k) texts (omega (arith, s.are_passed, begun.many)) ∙ (rw s.passing.laid at text-length))
-
-  pub measurable : length out ≤ 1048576 → AllMeasurable rows frames k code fact_text table
-  measurable l i j = record {
-    fits = word_low (part_word rows frames k code fact_text) table i j (omega (arith, measured_total, begun.ends));
-    rises = captured_rises W k frames out at begun.ends begun.slots code fact_text table i j each_stands;
-  }
+  -- they are as long as what stands in the buffer
+  measured_total : length bindings ≡ 8 → total (measured_parts bindings f xs) ≡ at - f.begin
+  measured_total eight =
+      rw (measured_is eight) (total_is (W.fragments k) texts (omega (arith, s.are_passed, begun.many)) ∙ (rw s.passing.laid at text-length))
 
   -- a kind that is not parsed
-  pub stays : is_parsed kind ≡ false → Rendered W k frames out at
+  stays_so : is_parsed kind ≡ false → Rendered W k f out at
   unfolding ◌then◌
-  stays h = record { begins = begun.begins; ends = begun.ends; is = row_is false (lookup (parses_of parses parse_text) kind rendering) h refl }
+  stays_so h = record { begins = begun.begins; ends = begun.ends; is = row_is false (lookup parses kind rendering) h refl }
 
   module _ (h : is_parsed kind ≡ true) where
     -- it is asked for
-    is_asked_lem : lookup (parses_of parses parse_text) kind rendering ≡ missing → Ends W k frames at (Asked (W.kind k) rendering)
+    is_asked_lem : lookup parses kind rendering ≡ None → Ends W k f at (events.Asked (W.kind k) rendering)
     unfolding ◌then◌
     is_asked_lem e =
-        row_is true missing h e
-        ∙ ap₂ (λ (n : ℕ) (t : List ℕ). stopped n (Asked (W.kind k) t)) (rw s.passing.laid at text-length) (sym s.passing.laid)
+        row_is true None h e
+        ∙ ap₂ (λ (n : ℕ) (t : List ℕ). stopped n (events.Asked (W.kind k) t)) (rw s.passing.laid at text-length) (sym s.passing.laid)
 
     -- it does not parse
-    stays_unparsed : lookup (parses_of parses parse_text) kind rendering ≡ handed [] → Rendered W k frames out at
+    stays_unparsed : lookup parses kind rendering ≡ Some [] → Rendered W k f out at
     unfolding ◌then◌
-    stays_unparsed e = record { begins = begun.begins; ends = begun.ends; is = row_is true (handed []) h e ∙ rw s.passing.laid }
+    stays_unparsed e = record { begins = begun.begins; ends = begun.ends; is = row_is true (Some []) h e ∙ rw s.passing.laid }
 
     -- it is rendered again, with parentheses
-    module _ (rs : List NodeRange) (some : 0 < length rs) (e : lookup (parses_of parses parse_text) kind rendering ≡ handed rs) where
-      abbrev again : List ℕ
-      again = rendered_again rs (measured_parts rows frames k code fact_text table) rendering
+    module _ (eight : length bindings ≡ 8) (rs : List NodeRange) (some : 0 < length rs) (e : lookup parses kind rendering ≡ Some rs) where
+      abbrev text_again : List ℕ
+      text_again = rendered_again rs (measured_parts bindings f xs) rendering
 
-      again_is : row_trace W k ≡ done (again ++ W.comments k)
+      again_is : row_trace W k ≡ Ok (text_again ++ W.comments k)
       unfolding ◌then◌
       again_is = by rs some e
         where
-          by : (rs : List NodeRange) → 0 < length rs → lookup (parses_of parses parse_text) kind rendering ≡ handed rs
-              → row_trace W k ≡ done (rendered_again rs (measured_parts rows frames k code fact_text table) rendering ++ W.comments k)
+          by : (rs : List NodeRange) → 0 < length rs → lookup parses kind rendering ≡ Some rs
+              → row_trace W k ≡ Ok (rendered_again rs (measured_parts bindings f xs) rendering ++ W.comments k)
           by [] h₀ e₀ = absurd (omega arith)
-          by (r ∷ rs) h₀ e₀ = row_is true (handed (r ∷ rs)) h e₀ ∙ rw (measured, s.passing.laid)
+          by (r ∷ rs) h₀ e₀ = row_is true (Some (r ∷ rs)) h e₀ ∙ rw (measured_is eight, s.passing.laid)
 
-      again_by : (b : Bool) → leb (begin_of frames k + length again) (length out) ≡ b
-          → Answers W k frames at out (cond b (laid out (begin_of frames k) again) out) (cond b (At (begin_of frames k + length again)) NoRoom)
-      again_by true g =
-          let w = grows_laid out (begin_of frames k) again (leb-true _ _ g) in
-          record { begins = w.rise; ends = w.ends; is = rw w.new again_is }
-      again_by false g =
-          let l : length out < begin_of frames k + length again = leb-false _ _ g in
-          rw again_is (omega (arith, length-append again (W.comments k)))
+      -- where there is room for it, and where not
+      again_fits : (behind : ℕ) (out' : List ℕ) → place_after (length out) f.begin (length text_again) ≡ Some behind → out' ≡ laid_if_room out f.begin text_again
+          → Rendered W k f out' behind
+      again_fits behind out' g o =
+          let p = placed_at out f.begin text_again behind g in
+          let w = grows_laid out f.begin text_again p.1 in
+          let u : out' ≡ laid out f.begin text_again = o ∙ p.2 in
+          rw (u, sym p.0) (record { begins = w.rise; ends = w.ends; is = rw w.new again_is })
 
-      again_answers : {out' : List ℕ} {r : Ended}
-          → PutAgain rs (measured_parts rows frames k code fact_text table) (begin_of frames k) at out out' r → Answers W k frames at out out' r
-      again_answers p =
-          subst₂ (λ (x : Ended) (o : List ℕ). Answers W k frames at out o x) (sym p.answers) (sym p.leaves)
-          (again_by (leb (begin_of frames k + length again) (length out)) refl)
+      again_full : place_after (length out) f.begin (length text_again) ≡ None → Bursts W k f out
+      again_full g =
+          let p = placed_full out f.begin text_again g in
+          rw again_is (omega (arith, p.0, length-append text_again (W.comments k)))
 
-  -- by what is found
-  module _ (h : is_parsed kind ≡ true) (b : ℕ) (b-is : b ≡ begin_of frames k) (f : Found)
-      (is : found_is parses f ≡ lookup (parses_of parses parse_text) kind (between b at out)) where
-    looked : (l : Lookup) → found_is parses f ≡ l → lookup (parses_of parses parse_text) kind rendering ≡ l
-    looked l e = sym (is ∙ ap (λ (n : ℕ). lookup (parses_of parses parse_text) kind (between n at out)) b-is) ∙ e
+-- ---- what each answer says
 
-    pub ends_asked : f.found ≡ false → Ends W k frames at (Asked (W.kind k) rendering)
-    ends_asked e = is_asked_lem h (looked missing (found-missing parses f e))
+module _ (bindings : List (Option Binding)) (f : Frame) (xs : List Fragment) (kind : ℕ) (parses : List Parse) (out : List ℕ) (at : ℕ) where
+  pub stays : is_parsed kind ≡ false → Ended bindings f xs kind parses out at out (Ok at)
+  stays h = record { answers = λ W k s. stays_so s h }
 
-    pub ends_unparsed : f.found ≡ true → f.count ≡ 0 → Rendered W k frames out at
-    ends_unparsed e z = stays_unparsed h (looked (handed []) (found_none parses f e z))
+  -- the parts are as long as the rendering
+  pub whole : (W : World) (k : ℕ) → Shows W k bindings f xs kind parses out at → length bindings ≡ 8 → total (measured_parts bindings f xs) ≡ at - f.begin
+  whole W k s eight = measured_total s eight
 
-    module _ (fits : f.at + 2 * f.count ≤ length parses) (ws : List ℕ) (are : ws ≡ part parses f.at (f.at + 2 * f.count)) where
-      pub ends_again : {out' : List ℕ} {r : Ended} → f.found ≡ true → (f.count ≡ 0 → ⊥)
-          → PutAgain (ranges_of ws) (measured_parts rows frames k code fact_text table) b at out out' r → Answers W k frames at out out' r
-      ends_again {out'} {r} e n p =
-          let u : ws ≡ range_words parses f = are ∙ found-words parses f fits in
-          again_answers h (ranges_of (range_words parses f)) (found_some parses f fits n)
-          (looked (handed (ranges_of (range_words parses f))) (found-handed parses f e))
-          (subst₂ (λ (m : ℕ) (l : List ℕ). PutAgain (ranges_of l) (measured_parts rows frames k code fact_text table) m at out out' r) b-is u p)
+  module _ (h : is_parsed kind ≡ true) where
+    pub asked : (r : Result ℕ Event) → lookup parses kind (between f.begin at out) ≡ None → r ≡ Err (Asked kind f.begin at)
+        → Ended bindings f xs kind parses out at out r
+    asked r e g = record {
+      answers = λ W k s. rw g (record { is_kind = sym s.is_kind; begins = refl; stands = refl; ends = is_asked_lem s h e }, refl);
+    }
+
+    pub unparsed : (pairs : List (List ℕ)) → lookup parses kind (between f.begin at out) ≡ Some (ranges_in pairs) → length pairs ≡ 0
+        → Ended bindings f xs kind parses out at out (Ok at)
+    unparsed [] e n = record { answers = λ W k s. stays_unparsed s h e }
+    unparsed (p ∷ ps) e n = absurd (omega arith)
+
+    pub again : (eight : length bindings ≡ 8) (pairs : List (List ℕ)) (out' : List ℕ) (a : Option ℕ) (r : Result ℕ Event) (parts : List Part)
+        → lookup parses kind (between f.begin at out) ≡ Some (ranges_in pairs) → (length pairs ≡ 0 → ⊥) → parts ≡ measured_parts bindings f xs
+        → PutAgain (ranges_in pairs) parts f.begin at out out' a → r ≡ ok_or a NoRoom → Ended bindings f xs kind parses out at out' r
+    again eight pairs out' a r parts e n m p g = record {
+      answers = λ W k s. rw g (by W k s a (p.answers ∙ rw m) (p.leaves ∙ rw m));
+    }
+      where
+        rs : List NodeRange
+        rs = ranges_in pairs
+
+        some_of : (l : List (List ℕ)) → (length l ≡ 0 → ⊥) → 0 < length (ranges_in l)
+        some_of [] n = absurd (n refl)
+        some_of (p ∷ l) n = omega arith
+
+        by : (W : World) (k : ℕ) (s : Shows W k bindings f xs kind parses out at) (a : Option ℕ)
+            → a ≡ place_after (length out) f.begin (length (rendered_again rs (measured_parts bindings f xs) (between f.begin at out)))
+            → out' ≡ laid_if_room out f.begin (rendered_again rs (measured_parts bindings f xs) (between f.begin at out)) → Answers W k f out at out' (ok_or a NoRoom)
+        by W k s (Some behind) q l = again_fits s h eight rs (some_of pairs n) e behind out' (sym q) l
+        by W k s None q l = again_full s h eight rs (some_of pairs n) e (sym q)

@@ -1,173 +1,142 @@
 // What becomes of a first rendering: it is asked for, or it stands, or it is rendered again with parentheses.
 #![tactic(auto)]
 
-ghost use Rattle.std.specs.Prelude.{◌≡◌, true, ◌-◌, ◌≤◌, length, take};
-ghost use Rattle.parses.specs.Ranges.{ranges_of};
-ghost use Rattle.parses.specs.Parses.{is_parse_list};
-ghost use Rattle.parentheses.specs.Parentheses.{parts_of, total};
+ghost use Rattle.std.specs.Prelude.{◌≡◌, ℕ, ◌-◌, ◌≤◌, length, take};
+ghost use Rattle.parses.specs.Ranges.{ranges_in};
+ghost use Rattle.parentheses.specs.Parentheses.{total};
+ghost use Rattle.parentheses.specs.Parts.{part_of, parts_of};
+ghost use Rattle.rows.specs.Told.{fragment_of};
 ghost use Rattle.rows.specs.Rows.{World};
-ghost use Rattle.rows.specs.Frames.{begin_of};
-ghost use Rattle.rerendering.specs.Parts.{part_word, part_words, measured_parts, Measurable, AllMeasurable};
-ghost use Rattle.rerendering.specs.Endings.{PutAgain, Shows, Answers};
+ghost use Rattle.rerendering.specs.Parts.{slot_length, prefix_in, measured, measured_parts};
+ghost use Rattle.rerendering.specs.Endings.{PutAgain, Shows, Ended};
 
-use rows::{frames, matches, told};
-use words::slices;
+use captures::Binding;
+use parentheses::Part;
+use parses::Parses;
+use replacing::{Event, Template};
+use rows::frames::{Frame, Span};
+use rows::matches;
+use rows::told::Fragment;
+use syntax::kinds::Kinds;
 
-// The place behind the text, or the event that ends the job.
-#[derive(Clone, Copy)]
-pub enum Ended {
-    At(usize),
-    NoRoom,
-    Asked,
+// The kinds of template roots that are parsed: expressions and items.
+const PARSED: Kinds = Kinds {
+    low: 64,
+    high: 2047,
+};
+
+// How many bytes a slot's text has.
+fn slot_length(text: Option<Span>) -> usize
+    ensures { result ≡ slot_length text }
+{
+    match text {
+        Some(span) => span.end.saturating_sub(span.start) as usize,
+        None => 0,
+    }
 }
 
-// The part that a fragment rendered: twice its length, and one more for a placeholder.
-fn part_of<'a>(
-    rows: &[u32],
-    frames: &[u32],
-    k: usize,
-    code: &'a [u8],
-    fact_text: &'a [u8],
-    n: u64,
-) -> u32
-    requires { (k ≤ 1023) × Measurable rows.now frames.now k code.now fact_text.now n }
-    ensures { result ≡ part_word rows.now frames.now k code.now fact_text.now n }
+// How many bytes the prefix of a placeholder has.
+fn prefix_length(binding: &Option<Binding>, is_receiver: bool) -> usize
+    ensures { result ≡ length (prefix_in binding.now is_receiver) }
 {
-    if told::is_fixed(n) {
-        let text = told::text_of(code, fact_text, n);
-        return (2 * text.len()) as u32;
+    match binding {
+        Some(b) => matches::prefix_length(b, is_receiver),
+        None => 0,
     }
-    let slot = told::slot_of(n);
-    let size = frames::word(frames, k, 14 + slot) + 1 - frames::word(frames, k, 6 + slot);
-    (2 * (matches::prefix_length(rows, k, slot, told::is_receiver(n)) + size) + 1) as u32
+}
+
+// The part that a fragment rendered.
+fn part_of(bindings: &[Option<Binding>; 8], frame: &Frame, fragment: Fragment<'_>) -> Part
+    requires { (measured bindings.now frame.now (fragment_of fragment)).length ≤ 1048576 }
+    ensures { part_of result ≡ measured bindings.now frame.now (fragment_of fragment.entry) }
+{
+    match fragment {
+        Fragment::Fixed(text) => Part {
+            length: text.len() as u32,
+            is_placeholder: false,
+            is_enclosed: false,
+        },
+        Fragment::Captured(hole) => {
+            let slot = hole.slot as usize;
+            let prefix = prefix_length(&bindings[slot], hole.is_receiver);
+            let length = prefix + slot_length(frame.texts[slot]);
+            Part {
+                length: length as u32,
+                is_placeholder: true,
+                is_enclosed: false,
+            }
+        }
+    }
 }
 
 // The parts of all fragments.
-fn measure_parts<'a>(
-    rows: &[u32],
-    frames: &[u32],
-    k: usize,
-    table: &[u64],
-    code: &'a [u8],
-    fact_text: &'a [u8],
-    parts: &mut [u32],
+#[tactic(auto, using(crate::proofs::PartLaws::part_low, crate::proofs::PartLaws::parts_more, crate::proofs::PartLaws::parts_all))]
+fn measure_parts<T: Template>(
+    bindings: &[Option<Binding>; 8],
+    frame: &Frame,
+    template: &T,
+    parts: &mut [Part],
 )
-    requires { (k ≤ 1023) × (length parts.old ≡ length table.now)
-        × AllMeasurable rows.now frames.now k code.now fact_text.now table.now }
-    ensures { parts.new
-        ≡ part_words rows.now frames.now k code.now fact_text.now table.now }
+    requires { (length parts.old ≡ length (T.fragments template.now)) × (total (measured_parts bindings.now frame.now (T.fragments template.now)) ≤ 1048576) }
+    ensures { parts_of parts.new ≡ measured_parts bindings.now frame.now (T.fragments template.now) }
 {
-    let mut i = 0;
-    while i < table.len() {
-        parts[i] = part_of(rows, frames, k, code, fact_text, table[i]);
-        i += 1;
+    for i in 0..parts.len() {
+        parts[i] = part_of(bindings, frame, template.fragment(i));
     }
 }
 
 // The text from b up to a place is rendered again, with parentheses round the parts that require them.
+#[tactic(auto, using(crate::proofs::AgainLaws::again_put, crate::proofs::AgainLaws::room_again))]
 fn put_again(
-    ranges: &[u32],
-    parts: &[u32],
-    marks: &mut [u32],
+    ranges: &[[u32; 2]],
+    parts: &mut [Part],
     out: &mut [u8],
     b: usize,
     at: usize,
-) -> Ended
-    requires marks_len { (length marks.old ≡ length parts.now) × (length parts.now ≤ 16384) }
-    requires b_le_at { (b ≤ at) × (at ≤ length out.old) × (length out.old ≤ 1048576) × (total (parts_of parts.now) ≡ at - b) }
-    ensures { PutAgain (ranges_of ranges.now) (parts_of parts.now) b at out.old out.new result }
+) -> Option<usize>
+    requires { (b ≤ at) × (at ≤ length out.old) × (length out.old ≤ 1048576) × (total (parts_of parts.old) ≡ at - b) × (length parts.old ≤ 16384) }
+    ensures { PutAgain (ranges_in ranges.now) (parts_of parts.old) b at out.old out.new result }
 {
-    let more = parentheses::mark_parts(ranges, parts, marks);
+    let more = parentheses::mark_parts(ranges, parts);
     if out.len() - at < more {
-        return Ended::NoRoom;
+        return None;
     }
-    parentheses::put_parentheses(out, b, at - b, more, parts, marks);
-    Ended::At(at + more)
+    parentheses::put_parentheses(&mut out[b..at + more], at - b, parts);
+    Some(at + more)
 }
 
-// The text of row k from b up to a place is rendered again, as a parse with these node ranges requires.
-fn render_again<'a>(
-    rows: &[u32],
-    frames: &[u32],
-    k: usize,
-    table: &[u64],
-    code: &'a [u8],
-    fact_text: &'a [u8],
-    ranges: &[u32],
-    parts: &mut [u32],
-    marks: &mut [u32],
-    out: &mut [u8],
-    b: usize,
-    at: usize,
-) -> Ended
-    requires k_bound { (k ≤ 1023) × (length table.now ≤ 16384)
-        × (length parts.old ≡ length table.now) × (length marks.old ≡ length table.now) }
-    requires b_le_at { (b ≤ at) × (at ≤ length out.old) × (length out.old ≤ 1048576)
-        × (total (measured_parts rows.now frames.now k code.now fact_text.now table.now) ≡ at - b) }
-    requires all_measurable { AllMeasurable rows.now frames.now k code.now fact_text.now table.now }
-    ensures { PutAgain (ranges_of ranges.now)
-        (measured_parts rows.now frames.now k code.now fact_text.now table.now)
-        b at out.old out.new result }
-{
-    measure_parts(rows, frames, k, table, code, fact_text, parts);
-    put_again(ranges, parts, marks, out, b, at)
-}
-
-// The end of row k's first rendering, of some kind, which stands before a place. `parts` and `marks` are room to work in, a word for each
-// fragment. What it asks for is some world that the words show; what it answers is right in every such world.
-pub fn end_rendering<'a>(
-    rows: &[u32],
-    frames: &[u32],
-    k: usize,
-    table: &[u64],
-    code: &'a [u8],
-    fact_text: &'a [u8],
+// The end of the first rendering of a row, of some kind, which stands before a place. `parts` is room to work in, for each fragment one. What
+// it asks for is some world that the values show; what it answers is right in every such world.
+#[tactic(auto, using(crate::proofs::EndLaws::stays, crate::proofs::EndLaws::asked))]
+pub fn end_rendering<T: Template>(
+    bindings: &[Option<Binding>; 8],
+    frame: &Frame,
+    template: &T,
     kind: u32,
-    parses: &[u32],
-    parse_text: &[u8],
-    parts: &mut [u32],
-    marks: &mut [u32],
+    parses: &Parses<'_>,
+    parts: &mut [Part],
     out: &mut [u8],
     at: usize,
-) -> Ended
-    requires parses_value { (is_parse_list (length parse_text.now) parses.now ≡ true)
-        × (k ≤ 1023) × (length table.now ≤ 16384) × (length out.old ≤ 1048576) }
-    requires table_in_bounds { (length table.now ≤ length parts.old) × (length table.now ≤ length marks.old) }
-    requires shows { (W : World)
-        × Shows W rows.now frames.now k table.now code.now fact_text.now kind parses.now parse_text.now out.old at }
-    ensures answers { (W : World)
-        → Shows W rows.now frames.now k table.now code.now fact_text.now
-        kind parses.now parse_text.now out.old at
-        → Answers W k frames.now at out.old out.new result }
-    ensures out_len_unchanged { (length out.new ≡ length out.old)
-        × (take (begin_of frames.now k) out.new ≡ take (begin_of frames.now k) out.old) }
+) -> Result<usize, Event>
+    requires few { (length (T.fragments template.now) ≤ 16384) × (length (T.fragments template.now) ≤ length parts.old) × (length out.old ≤ 1048576) }
+    requires shows { (W : World) × (k : ℕ) × Shows W k bindings.now frame.now (T.fragments template.now) kind parses.now out.old at }
+    ensures ended { Ended bindings.now frame.now (T.fragments template.now) kind parses.now out.old at out.new result }
+    ensures out_len_unchanged { (length out.new ≡ length out.old) × (take frame.now.begin out.new ≡ take frame.now.begin out.old) }
 {
-    if (kind < 64) | (2047 < kind) {
-        return Ended::At(at);
+    if !PARSED.contains(kind) {
+        return Ok(at);
     }
-    let b = frames::word(frames, k, 0);
-    let found = parses::find_parse(parses, parse_text, kind, &out[b..at]);
-    if found.found {
-        if found.count == 0 {
-            return Ended::At(at);
-        }
-        let first = found.at;
-        let ranges = slices::part_of(parses, first, first + 2 * found.count);
-        let n = table.len();
-        return render_again(
-            rows,
-            frames,
-            k,
-            table,
-            code,
-            fact_text,
-            ranges,
-            &mut parts[..n],
-            &mut marks[..n],
-            out,
-            b,
-            at,
-        );
+    let b = frame.begin as usize;
+    let asked = Event::Asked {
+        kind,
+        from: b,
+        to: at,
+    };
+    let ranges = parses.find_parse(kind, &out[b..at]).ok_or(asked)?;
+    if ranges.is_empty() {
+        return Ok(at);
     }
-    Ended::Asked
+    let parts = &mut parts[..template.len()];
+    measure_parts(bindings, frame, template, parts);
+    put_again(ranges, parts, out, b, at).ok_or(Event::NoRoom)
 }

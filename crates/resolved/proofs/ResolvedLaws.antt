@@ -1,60 +1,46 @@
 -- 1 to 22 in turn, what is known where they pass, and the stages behind them.
 -- Assumes nothing.
-use mathlib.Core.Path.{◌≡◌, refl, sym, ◌∙◌}
-use mathlib.Core.Bool.{Bool, true, false}
-use mathlib.Core.List.{List, [], ◌∷◌, ◌++◌, map}
-use Rattle.std.proofs.Common.{Ok, Err}
-use Rattle.errors.specs.Refusals.{Outcome, ok, err}
+use Rattle.std.proofs.Common.{◌≡◌, refl, sym, ◌∙◌, Bool, true, false, List, [], ◌∷◌, ◌++◌, map, Ok, Err}
+use Rattle.errors.specs.Refusals.{Outcome, ok, err, first_of, in_turn}
 use Rattle.errors.specs.declared.Refusal.{Refusal}
-use Rattle.errors.specs.declared.Refusal.TheVariants.{UnresolvedPath}
-use Rattle.errors.specs.Refusals.{first_of, in_turn}
 use Rattle.errors.proofs.Laws.{refused_not, turn_passes, turn_refuses, turn_both, turn_last}
-use Rattle.fragments.specs.Pairs.{pairs}
-use Rattle.rules.specs.declared.stages.Stage.TheVariants.{TreesWithFacts, Forms}
+use Rattle.fragments.specs.Pairs.{pairs_in}
+use Rattle.rules.specs.declared.stages.Stage.TheVariants.{Forms}
 use Rattle.rules.specs.Forms.{any}
-use Rattle.rule_paths.specs.RulePaths.{pair_fails, paths_outcome}
-use Rattle.checks.specs.Given.{File, Rules, stage, given_outcome}
-use Rattle.checks.proofs.GivenLaws.{trees_accepted}
-
-abbrev pub to_resolve : Rules → File → List Outcome
-to_resolve q f = given_outcome q f ∷ paths_outcome (pairs q.directory q.words q.bytes) ∷ []
-
-abbrev any_fails : Rules → Bool
-any_fails q = any (map pair_fails (pairs q.directory q.words q.bytes))
+use Rattle.checks.specs.declared.Rules.{Rules}
+use Rattle.checks.specs.Given.{File, stage, given_outcome}
+use Rattle.rule_paths.specs.RulePaths.{pair_fails, paths_outcome, resolving_rules}
+use Rattle.resolved.specs.Resolved.{to_resolve}
 
 module _ (q : Rules) (f : File) where
-  pub given_refuses : (r : Refusal) → given_outcome q f ≡ err r → err r ≡ in_turn (to_resolve q f)
-  given_refuses r h = sym (turn_refuses _ _ r h)
+  pub given_refuses : (r : Refusal) → err r ≡ given_outcome q f → err r ≡ in_turn (to_resolve q f)
+  given_refuses r h = sym (turn_refuses _ _ r (sym h))
 
-  module _ (h : given_outcome q f ≡ ok) where
-    paths_decide : in_turn (to_resolve q f) ≡ paths_outcome (pairs q.directory q.words q.bytes)
-    paths_decide = turn_passes _ _ h ∙ turn_last _
+  -- where what is given passes, the paths decide
+  module _ (h : ok ≡ given_outcome q f) where
+    paths_decide : in_turn (to_resolve q f) ≡ paths_outcome (pairs_in q.pairs)
+    paths_decide = turn_passes _ _ (sym h) ∙ turn_last _
 
-    pub path_fails : any_fails q ≡ true → err UnresolvedPath ≡ in_turn (to_resolve q f)
+    pub paths_refuse : (r : Refusal) → Err r ≡ resolving_rules q → err r ≡ in_turn (to_resolve q f)
     unfolding first_of
-    path_fails e = sym (paths_decide ∙ rw e)
-
-    pub all_resolve : any_fails q ≡ false → ok ≡ in_turn (to_resolve q f)
-    unfolding first_of
-    all_resolve e = sym (paths_decide ∙ rw e)
-
-  -- where they pass
-  module _ (h : in_turn (to_resolve q f) ≡ ok) where
-    given_passed : given_outcome q f ≡ ok
-    given_passed = (turn_both _ _ h).0
-
-    pub trees_passed : stage TreesWithFacts q ≡ ok
-    trees_passed = trees_accepted q f given_passed
-
-    pub forms_passed : stage Forms q ≡ ok
-    forms_passed = (turn_both _ _ (turn_both _ _ (turn_both _ _ (turn_both _ _ given_passed).1).1).1).0
-
-    pub none_fails : any_fails q ≡ false
-    none_fails = by (any_fails q) refl
+    paths_refuse r e = go (any (map pair_fails (pairs_in q.pairs))) refl
       where
-        by : (b : Bool) → any_fails q ≡ b → any_fails q ≡ false
-        by true e = absurd (refused_not (path_fails given_passed e ∙ h))
-        by false e = e
+        go : (b : Bool) → any (map pair_fails (pairs_in q.pairs)) ≡ b → err r ≡ in_turn (to_resolve q f)
+        go true t = rw (paths_decide, t) (let k = (rw t at e) in cc)
+        go false t = absurd (let k = (rw t at e) in cc)
+
+    pub all_pass : (p : Rules) → Ok p ≡ resolving_rules q → (p ≡ q) × (ok ≡ in_turn (to_resolve q f))
+    unfolding first_of
+    all_pass p e = go (any (map pair_fails (pairs_in q.pairs))) refl
+      where
+        go : (b : Bool) → any (map pair_fails (pairs_in q.pairs)) ≡ b → (p ≡ q) × (ok ≡ in_turn (to_resolve q f))
+        go true t = absurd (let k = (rw t at e) in cc)
+        go false t = (let k = (rw t at e) in cc, rw (paths_decide, t))
+
+  -- where all pass, the forms do
+  pub forms_passed : in_turn (to_resolve q f) ≡ ok → stage Forms q ≡ ok
+  unfolding given_outcome
+  forms_passed h = (turn_both _ _ (turn_both _ _ (turn_both _ _ (turn_both _ _ (turn_both _ _ h).0).1).1).1).0
 
 -- stages behind others are looked at where these pass
 pub turns_pass : (os more : List Outcome) → in_turn os ≡ ok → in_turn (os ++ more) ≡ in_turn more

@@ -2,62 +2,54 @@
 -- number of a rule, a side and an element, and answers what that element is: whether it is a resolved path and what it resolves to, whether
 -- it is a call that UFCS may match, its function and its type or none, and whether that side contains `self`.
 -- Assumes nothing.
-use Rattle.std.specs.Prelude.{ℕ, ◌/◌, false, cond, List, [], ◌∷◌, eqb, ltb, length}
-use Rattle.std.specs.Prelude.{Ok, Err}
+use Rattle.std.specs.Prelude.{ℕ, ◌/◌, cond, [], ◌∷◌, eqb, ltb, length, Option, Some, None, option_map, option_and_then, Result, Ok, Err}
+use Rattle.errors.specs.declared.Refusal.{Refusal}
 use Rattle.errors.specs.Refusals.{Outcome}
 use Rattle.errors.specs.Refusals.{in_turn}
-use Rattle.syntax.specs.Trees.{tree}
+use Rattle.syntax.specs.declared.kinds.ElementKind.TheVariants.{Token}
 use Rattle.syntax.specs.Accessors.{has_element}
-use Rattle.fragments.specs.Pairs.{Pair, pairs, pair_at, tree_of}
-use Rattle.rules.specs.declared.forms.TemplateTree.{TemplateTree}
-use Rattle.rules.specs.declared.forms.TemplateTree.TheVariants.{Absent, Own, StandIn, Missing}
-use Rattle.rules.specs.declared.numbering.Rule.{Rule}
-use Rattle.rules.specs.declared.numbering.Found.{Found}
-use Rattle.rules.specs.declared.numbering.Found.TheVariants.{NoSuchRule, At}
-use Rattle.rules.specs.declared.stages.Stage.TheVariants.{TreesWithFacts}
+use Rattle.fragments.specs.declared.forms.Side.TheVariants.{Pattern, Template}
+use Rattle.fragments.specs.Pairs.{pairs_in}
 use Rattle.rules.specs.Stages.{rules_outcome}
-use Rattle.rules.specs.Numbering.{rules, rule_at}
+use Rattle.checks.specs.declared.Rules.{Rules}
+use Rattle.checks.specs.Given.{found_rule}
+use Rattle.paths.specs.Steps.{SideTree, root_of}
 use Rattle.paths.specs.Resolved.{path_at, call_at}
-use Rattle.rule_paths.specs.RulePaths.{side_at, paths_outcome}
-use Rattle.resolving.specs.declared.asking.Element.{Element}
-use Rattle.resolving.specs.declared.asking.Resolved.{Resolved}
-use Rattle.resolving.specs.declared.asking.Resolved.TheVariants as resolved
+use Rattle.rule_paths.specs.RulePaths.{tree_at, template_form, paths_outcome}
+use Rattle.rule_paths.specs.Needs.{PairedRule, paired}
+use Rattle.resolving.specs.declared.Element.{Element}
 
--- an element of a form's tree on a side; `contains_self` of docs/src/src/resolving.rs: a `self` token, kind 11, anywhere in the tree
-abbrev pub element_of : Pair → ℕ → ℕ → ℕ → Element
-element_of p side form e = record {
-  path = path_at (side_at p side form) (tree (tree_of side form p)) e;
-  call = call_at (side_at p side form) (tree (tree_of side form p)) e;
-  contains_self = has_element false 11 (tree (tree_of side form p));
+-- an element of a tree; `contains_self` of docs/src/src/resolving.rs: a `self` token, kind 11, anywhere in the tree
+abbrev pub element_of : SideTree → ℕ → Element
+element_of t e = record {
+  path = path_at t.side (root_of t) e;
+  call = call_at t.side (root_of t) e;
+  contains_self = has_element Token 11 (root_of t);
 }
 
-abbrev pub in_tree : Pair → ℕ → ℕ → ℕ → Resolved
-in_tree p side form e = cond (ltb e (length (tree_of side form p) / 3)) (resolved.At (element_of p side form e)) resolved.NoSuchElement
+abbrev pub in_tree : ℕ → SideTree → Option Element
+in_tree e t = cond (ltb e (length t.words / 3)) (Some (element_of t e)) None
 
--- of the template's tree that the rule has
-abbrev pub in_template : Pair → ℕ → TemplateTree → ℕ → Resolved
-in_template p form Absent e = resolved.NoSuchElement
-in_template p form Own e = in_tree p 1 form e
-in_template p form StandIn e = in_tree p 1 4 e
-in_template p form Missing e = resolved.NoSuchElement
+-- side 0 is the pattern, 1 the template, whose tree a rule may lack; there is no other
+abbrev pub tree_of_side : PairedRule → ℕ → Option SideTree
+tree_of_side r side =
+    cond (eqb side 0) (Some (tree_at r.pair Pattern r.rule.form))
+    (cond (eqb side 1) (option_map (tree_at r.pair Template) (template_form r.rule.form r.rule.template)) None)
 
--- side 0 is the pattern, 1 the template; there is no other
-abbrev pub in_rule : Pair → Rule → ℕ → ℕ → Resolved
-in_rule p r side e = cond (eqb side 0) (in_tree p 0 r.form e) (cond (eqb side 1) (in_template p r.form r.template e) resolved.NoSuchElement)
+abbrev pub in_rule : PairedRule → ℕ → ℕ → Option Element
+in_rule r side e = option_and_then (in_tree e) (tree_of_side r side)
 
-abbrev pub in_found : List ℕ → List ℕ → List ℕ → Found → ℕ → ℕ → Resolved
-in_found directory words bytes NoSuchRule side e = resolved.NoSuchElement
-in_found directory words bytes (At r) side e = in_rule (pair_at r.pair directory words bytes) r side e
+abbrev pub in_rules : Rules → ℕ → ℕ → ℕ → Option Element
+in_rules q number side e = option_and_then (λ r. in_rule (paired q r) side e) (found_rule q number)
 
--- the stages, with a fact text of m bytes
-abbrev pub resolve_outcome : ℕ → List ℕ → List ℕ → List ℕ → Outcome
-resolve_outcome m directory words bytes =
-    in_turn (rules_outcome TreesWithFacts m directory words bytes ∷ paths_outcome (pairs directory words bytes) ∷ [])
+-- the stages
+unfoldable pub resolve_outcome : Rules → Outcome
+resolve_outcome q = in_turn (rules_outcome (Some q.fact_bytes) q.pairs ∷ paths_outcome (pairs_in q.pairs) ∷ [])
 
-abbrev pub resolved_by : Outcome → Resolved → Resolved
-resolved_by (Err r) answer = resolved.Refused r
-resolved_by (Ok tt) answer = answer
+-- the refusal, or the element where there are such a rule, side and element
+abbrev pub resolved_by : Outcome → Option Element → Result (Option Element) Refusal
+resolved_by (Err r) answer = Err r
+resolved_by (Ok tt) answer = Ok answer
 
-abbrev pub resolved_element : ℕ → List ℕ → List ℕ → List ℕ → ℕ → ℕ → ℕ → Resolved
-resolved_element m directory words bytes number side e =
-    resolved_by (resolve_outcome m directory words bytes) (in_found directory words bytes (rule_at (rules (pairs directory words bytes)) number) side e)
+abbrev pub resolved_element : Rules → ℕ → ℕ → ℕ → Result (Option Element) Refusal
+resolved_element q number side e = resolved_by (resolve_outcome q) (in_rules q number side e)

@@ -2,110 +2,105 @@
 -- of the row's text.
 -- Assumes nothing.
 use mathlib.Core.Path.{◌≡◌, refl, sym, ap, subst, ◌∙◌}
-use mathlib.Core.Bool.{Bool, true, false}
+use mathlib.Core.Bool.{Bool, true}
 use mathlib.Core.List.{List, [], ◌∷◌, ◌++◌, append_assoc, append-nil}
-use Prim.Native.Nat.{ℕ, zero, suc, ◌+◌, ◌-◌, ◌≤◌, ◌<◌}
+use Prim.Native.Nat.{ℕ, ◌+◌, ◌-◌, ◌≤◌, ◌<◌}
 use native.Mathlib.Omega.{arith}
-use borrow.Author.Tests.{ne_eqb}
-use lib.ListN.{length, take, drop, length-append, length-drop, take-append-drop}
-use lib.Seq.{take-add}
+use lib.ListN.{length, take, drop, length-set, length-append, length-drop, take-append-drop}
+use lib.Seq.{take-add, get_or-set_same, get_or-set_other}
+use Rattle.std.specs.Prelude.{Option, None, Some, Ok}
+use Rattle.std.specs.List.{concat}
+use Rattle.std.proofs.lemmas.List.{get_or-replicate}
+use Rattle.std.proofs.lemmas.Option.{none-some}
 use Rattle.words.proofs.TestLaws.{same_or}
-use Rattle.rendering.specs.Events.{Event, Unbound, concat}
+use Rattle.captures.specs.declared.Binding.{Binding}
+use Rattle.rendering.specs.Events.{Event, Unbound}
 use Rattle.rendering.specs.Texts.{Fragment, captured, prefix}
-use Rattle.rendering.specs.Traces.{Trace, done, stopped, reach, ◌then◌, fragment_trace, traces_of}
+use Rattle.rendering.specs.Traces.{Trace, stopped, reach, ◌then◌, fragment_trace, traces_of}
 use Rattle.rendering.proofs.RoomLaws.{nothing_then, then_assoc, concat-append}
 use Rattle.rendering.proofs.TraceLaws.{done_then_done, done_then_stopped, reach_done_then, one_more, one_stops, one_reaches, match_stops, match_reach, reach_all}
-use Rattle.nester.specs.Rows.{binding_in}
-use Rattle.rows.specs.Rows.{World, is_nested, slot_filling, slot_hole, row_trace}
-use Rattle.rows.specs.Frames.{begin_of, passed_of, filling_of, next_of, from_of, origin_of, slot_start, slot_end, between, Grows, SlotStands, Begun, Passing, Within, rest_from, Filling, Waiting}
-use Rattle.rows.proofs.FrameLaws.{Entered, Stays, SlotBegins, PiecePasses, SlotEnds}
+use Rattle.rows.specs.declared.frames.Span.{Span}
+use Rattle.rows.specs.declared.frames.Progress.{Progress}
+use Rattle.rows.specs.declared.frames.Frame.{Frame}
+use Rattle.rows.specs.Rows.{World, count_of, binding_of, start_in, end_in, is_nested, slot_fill, slot_filling, slot_hole, row_trace}
+use Rattle.rows.specs.Frames.{frame_at, slot_begun, row_passed, piece_passed, slot_ended, text_in, between, Grows, SlotStands, Begun, Passing, Within, rest_from, Filling, Waiting}
 use Rattle.rows.proofs.BetweenLaws.{length-between, between-same, between_none, between_end, grows_between}
 
--- ---- a slot's text
-
-slot_later : (W : World) (k slot start end : ℕ) (out out' : List ℕ) (at at' : ℕ) → take at out' ≡ take at out → at ≤ at'
-    → SlotStands W k slot start end out at → SlotStands W k slot start end out' at'
-slot_later W k slot zero end out out' at at' e h s = tt
-slot_later W k slot (suc start) end out out' at at' e h s = (s.0, omega arith, s.2 ∙ ap done (sym (between-same start end at out out' s.1 e)))
-
-slot_as : (W : World) (k slot start end start' end' : ℕ) (out : List ℕ) (at : ℕ) → start' ≡ start → end' ≡ end
-    → SlotStands W k slot start end out at → SlotStands W k slot start' end' out at
-slot_as W k slot start end start' end' out at p q s =
-    subst (λ (x : ℕ). SlotStands W k slot x end' out at) (sym p) (subst (λ (y : ℕ). SlotStands W k slot start y out at) (sym q) s)
+-- a slot's text with more bytes behind it
+slot_later : (W : World) (k slot : ℕ) (s : Option Span) (out out' : List ℕ) (at at' : ℕ) → take at out' ≡ take at out → at ≤ at' → SlotStands W k slot s out at → SlotStands W k slot s out' at'
+slot_later W k slot None out out' at at' e h x = tt
+slot_later W k slot (Some s) out out' at at' e h x = (x.0, omega arith, x.2 ∙ ap (λ (b : List ℕ). Ok b) (sym (between-same s.start s.end at out out' x.1 e)))
 
 -- ---- fragments that are passed
 
-module _ {W : World} {k : ℕ} {frames out : List ℕ} {at : ℕ} where
+module _ {W : World} {k : ℕ} {f : Frame} {out : List ℕ} {at : ℕ} (b : Begun W k f out at) where
   -- with more bytes behind them
-  abbrev begun_stays : {frames' out' : List ℕ} {at' : ℕ} → Begun W k frames out at → Stays k frames frames' → length out' ≡ length out
-      → take at out' ≡ take at out → at ≤ at' → at' ≤ length out' → Begun W k frames' out' at'
-  begun_stays {frames'} {out'} {at'} b s n e h l = record {
+  abbrev begun_later : (filling : Option Progress) (out' : List ℕ) (at' : ℕ) → take at out' ≡ take at out → at ≤ at' → at' ≤ length out' → Begun W k (record f { filling = filling }) out' at'
+  begun_later filling out' at' e h l = record {
+    eight = b.eight;
     texts = b.texts;
-    many = b.many ∙ sym s.passed;
-    few = omega (arith, b.few, s.passed);
-    are = ap (λ (p : ℕ). traces_of (slot_hole W k) (take p (W.fragments k))) s.passed ∙ b.are;
-    begins = omega (arith, b.begins, s.begin);
+    many = b.many;
+    few = b.few;
+    are = b.are;
+    begins = omega (arith, b.begins);
     ends = l;
-    slots = λ slot m. slot_as W k slot (slot_start frames k slot) (slot_end frames k slot) (slot_start frames' k slot) (slot_end frames' k slot) out' at'
-        (s.starts slot m) (s.ends slot m)
-        (slot_later W k slot (slot_start frames k slot) (slot_end frames k slot) out out' at at' e h (b.slots slot m));
-    stand = λ i slot r others m p q. omega (arith, b.stand i slot r others m (omega (arith, s.passed)) q, s.starts slot m);
+    slots = λ slot m. slot_later W k slot (text_in f slot) out out' at at' e h (b.slots slot m);
+    stand = b.stand;
   }
 
-  module _ (b : Begun W k frames out at) (f : Fragment) (others : List Fragment) (here : drop (passed_of frames k) (W.fragments k) ≡ f ∷ others) where
+  module _ (x : Fragment) (others : List Fragment) (here : drop f.passed (W.fragments k) ≡ x ∷ others) where
     fs : List Fragment
-    fs = take (passed_of frames k) (W.fragments k)
+    fs = take f.passed (W.fragments k)
 
-    whole : W.fragments k ≡ fs ++ (f ∷ others)
+    whole : W.fragments k ≡ fs ++ (x ∷ others)
     unfolding fs
-    whole = sym (take-append-drop (passed_of frames k) (W.fragments k)) ∙ ap (λ (l : List Fragment). fs ++ l) here
+    whole = sym (take-append-drop f.passed (W.fragments k)) ∙ ap (λ (l : List Fragment). fs ++ l) here
 
-    one : take (passed_of frames k + 1) (W.fragments k) ≡ fs ++ (f ∷ [])
+    one : take (f.passed + 1) (W.fragments k) ≡ fs ++ (x ∷ [])
     unfolding fs
-    one = take-add (passed_of frames k) 1 (W.fragments k) ∙ ap (λ (l : List Fragment). fs ++ take 1 l) here
+    one = take-add f.passed 1 (W.fragments k) ∙ ap (λ (l : List Fragment). fs ++ take 1 l) here
 
-    left : passed_of frames k < length (W.fragments k)
-    left = omega (arith, sym (length-drop (passed_of frames k) (W.fragments k)) ∙ ap length here)
+    left : f.passed < length (W.fragments k)
+    left = omega (arith, sym (length-drop f.passed (W.fragments k)) ∙ ap length here)
 
     -- the next one stops
-    pub row_stops : (n : ℕ) (e : Event) → fragment_trace (slot_hole W k) f ≡ stopped n e → row_trace W k ≡ stopped (length (concat b.texts) + n) e
+    pub row_stops : (n : ℕ) (e : Event) → fragment_trace (slot_hole W k) x ≡ stopped n e → row_trace W k ≡ stopped (length (concat b.texts) + n) e
     unfolding fs
     row_stops n e h =
         match_stops (W.kind k) (W.fragments k) (W.comments k) W.parse (slot_hole W k) (length (concat b.texts) + n) e
-        (ap (traces_of (slot_hole W k)) whole ∙ one_stops (slot_hole W k) fs others f b.texts b.are n e h)
+        (ap (traces_of (slot_hole W k)) whole ∙ one_stops (slot_hole W k) fs others x b.texts b.are n e h)
 
     -- it is laid
-    pub row_reaches : length (concat b.texts) + reach (fragment_trace (slot_hole W k) f) ≤ reach (row_trace W k)
+    pub row_reaches : length (concat b.texts) + reach (fragment_trace (slot_hole W k) x) ≤ reach (row_trace W k)
     unfolding fs
     row_reaches = omega (
       arith,
       match_reach (W.kind k) (W.fragments k) (W.comments k) W.parse (slot_hole W k),
-      one_reaches (slot_hole W k) fs others f b.texts b.are,
+      one_reaches (slot_hole W k) fs others x b.texts b.are,
       ap (λ (l : List Fragment). reach_all (traces_of (slot_hole W k) l)) whole,
     )
 
     -- it is passed
-    pub passes : (frames' out' : List ℕ) (at' : ℕ) (bs : List ℕ) → fragment_trace (slot_hole W k) f ≡ done bs
-        → between (begin_of frames k) at' out' ≡ concat b.texts ++ bs
-        → begin_of frames' k ≡ begin_of frames k → passed_of frames' k ≡ passed_of frames k + 1 → filling_of frames' k ≡ 0
-        → begin_of frames k ≤ at' → at' ≤ length out'
-        → ((slot : ℕ) → slot < 8 → SlotStands W k slot (slot_start frames' k slot) (slot_end frames' k slot) out' at')
-        → ((slot : ℕ) → slot < 8 → 0 < slot_start frames k slot → 0 < slot_start frames' k slot)
-        → ((slot : ℕ) (r : Bool) → slot < 8 → f ≡ captured slot r → 0 < slot_start frames' k slot) → Passing W k frames' out' at'
-    unfolding fs concat
-    passes frames' out' at' bs h stands begin passed none low high slots starts this = record {
+    passes : (f' : Frame) (out' : List ℕ) (at' : ℕ) (bs : List ℕ) → fragment_trace (slot_hole W k) x ≡ Ok bs → between f.begin at' out' ≡ concat b.texts ++ bs
+        → f'.begin ≡ f.begin → f'.passed ≡ f.passed + 1 → f'.filling ≡ None → length f'.texts ≡ 8 → f.begin ≤ at' → at' ≤ length out'
+        → ((slot : ℕ) → slot < 8 → SlotStands W k slot (text_in f' slot) out' at')
+        → ((slot : ℕ) → slot < 8 → text_in f' slot ≡ None → text_in f slot ≡ None)
+        → ((slot : ℕ) (r : Bool) → slot < 8 → x ≡ captured slot r → text_in f' slot ≡ None → ⊥) → Passing W k f' out' at'
+    unfolding fs
+    passes f' out' at' bs h stands begin passed none eight low high slots before this = record {
       begun = record {
+        eight = eight;
         texts = b.texts ++ (bs ∷ []);
         many = omega (arith, length-append b.texts (bs ∷ []), b.many, passed);
         few = omega (arith, left, passed);
         are = ap (λ (p : ℕ). traces_of (slot_hole W k) (take p (W.fragments k))) passed ∙ ap (traces_of (slot_hole W k)) one
-            ∙ one_more (slot_hole W k) fs others f b.texts b.are bs h;
+            ∙ one_more (slot_hole W k) fs others x b.texts b.are bs h;
         begins = omega (arith, begin);
         ends = high;
         slots = slots;
-        stand = λ i slot r rest m p q. same_or i (passed_of frames k)
-            (λ e. let g : f ≡ captured slot r = cc in this slot r m g)
-            (λ e. starts slot m (b.stand i slot r rest m (omega (arith, passed)) q));
+        stand = λ i slot r rest m p q n. same_or i f.passed
+            (λ e. let g : x ≡ captured slot r = cc in this slot r m g n)
+            (λ e. b.stand i slot r rest m (omega (arith, passed)) q (before slot m n));
       };
       none = none;
       laid = ap (λ (a : ℕ). between a at' out') begin ∙ stands
@@ -115,196 +110,183 @@ module _ {W : World} {k : ℕ} {frames out : List ℕ} {at : ℕ} where
 -- ---- between two fragments
 
 -- a text that begins
-pub enters_passing : (W : World) (k at : ℕ) (frames frames' out : List ℕ) → at ≤ length out → Entered frames k at frames' → Passing W k frames' out at
-unfolding traces_of concat
-enters_passing W k at frames frames' out h e = record {
+pub enters_passing : (W : World) (k at : ℕ) (out : List ℕ) → at ≤ length out → Passing W k (frame_at at) out at
+unfolding traces_of
+enters_passing W k at out h = record {
   begun = record {
+    eight = refl;
     texts = [];
-    many = sym e.passed;
-    few = omega (arith, e.passed);
-    are = ap (λ (p : ℕ). traces_of (slot_hole W k) (take p (W.fragments k))) e.passed;
-    begins = omega (arith, e.begin);
+    many = refl;
+    few = omega arith;
+    are = refl;
+    begins = omega arith;
     ends = h;
-    slots = λ slot m. slot_as W k slot 0 (slot_end frames' k slot) (slot_start frames' k slot) (slot_end frames' k slot) out at (e.starts slot m) refl tt;
-    stand = λ i slot r others m p q. absurd (omega (arith, e.passed));
+    slots = λ slot m. subst (λ (s : Option Span). SlotStands W k slot s out at) (sym (get_or-replicate 8 slot None None m)) tt;
+    stand = λ i slot r others m p q n. omega arith;
   };
-  none = e.filling;
-  laid = ap (λ (a : ℕ). between a at out) e.begin ∙ between_none at out;
+  none = refl;
+  laid = between_none at out;
 }
 
-module _ {W : World} {k : ℕ} {frames out : List ℕ} {at : ℕ} (p : Passing W k frames out at) where
-  pub passing_place : begin_of frames k + length (concat p.begun.texts) ≡ at
+module _ {W : World} {k : ℕ} {f : Frame} {out : List ℕ} {at : ℕ} (p : Passing W k f out at) where
+  pub passing_place : f.begin + length (concat p.begun.texts) ≡ at
   passing_place =
       let b = p.begun in
-      omega (arith, sym (length-between (begin_of frames k) at out b.ends) ∙ ap length p.laid, b.begins)
+      omega (arith, sym (length-between f.begin at out b.ends) ∙ ap length p.laid, b.begins)
 
-  module _ (f : Fragment) (others : List Fragment) (here : drop (passed_of frames k) (W.fragments k) ≡ f ∷ others) where
-    pub passing_stops : (n : ℕ) (e : Event) → fragment_trace (slot_hole W k) f ≡ stopped n e → row_trace W k ≡ stopped ((at - begin_of frames k) + n) e
+  module _ (x : Fragment) (others : List Fragment) (here : drop f.passed (W.fragments k) ≡ x ∷ others) where
+    pub passing_stops : (n : ℕ) (e : Event) → fragment_trace (slot_hole W k) x ≡ stopped n e → row_trace W k ≡ stopped ((at - f.begin) + n) e
     passing_stops n e h =
-        let q : length (concat p.begun.texts) + n ≡ (at - begin_of frames k) + n = omega (arith, passing_place) in
-        row_stops p.begun f others here n e h ∙ ap (λ (m : ℕ). stopped m e) q
+        let q : length (concat p.begun.texts) + n ≡ (at - f.begin) + n = omega (arith, passing_place) in
+        row_stops p.begun x others here n e h ∙ ap (λ (m : ℕ). stopped m e) q
 
-    pub passing_reaches : at + reach (fragment_trace (slot_hole W k) f) ≤ begin_of frames k + reach (row_trace W k)
-    passing_reaches = omega (arith, row_reaches p.begun f others here, passing_place)
+    pub passing_reaches : at + reach (fragment_trace (slot_hole W k) x) ≤ f.begin + reach (row_trace W k)
+    passing_reaches = omega (arith, row_reaches p.begun x others here, passing_place)
 
     -- a fragment's text is laid
-    pub piece_passes : (frames' out' : List ℕ) (at' : ℕ) (bs : List ℕ) → fragment_trace (slot_hole W k) f ≡ done bs → Grows out out' at at' bs
-        → PiecePasses frames k frames' → ((slot : ℕ) (r : Bool) → slot < 8 → f ≡ captured slot r → 0 < slot_start frames k slot)
-        → Passing W k frames' out' at'
-    piece_passes frames' out' at' bs h g q this =
+    pub piece_passes : (out' : List ℕ) (at' : ℕ) (bs : List ℕ) → fragment_trace (slot_hole W k) x ≡ Ok bs → Grows out out' at at' bs
+        → ((slot : ℕ) (r : Bool) → slot < 8 → x ≡ captured slot r → text_in f slot ≡ None → ⊥) → Passing W k (piece_passed f) out' at'
+    piece_passes out' at' bs h g this =
         let b = p.begun in
-        let start : (slot : ℕ) → slot_start frames' k slot ≡ slot_start frames k slot = λ slot. q.others (6 + slot) (ne_eqb 1 (6 + slot) (λ e. omega arith)) in
-        let end : (slot : ℕ) → slot_end frames' k slot ≡ slot_end frames k slot = λ slot. q.others (14 + slot) (ne_eqb 1 (14 + slot) (λ e. omega arith)) in
-        passes b f others here frames' out' at' bs h
-        (grows_between (begin_of frames k) at at' out out' bs b.begins g ∙ ap (λ (l : List ℕ). l ++ bs) p.laid)
-        (q.others 0 refl) q.passed (q.others 2 refl ∙ p.none) (omega (arith, b.begins, g.rise)) g.ends
-        (λ slot m. slot_as W k slot (slot_start frames k slot) (slot_end frames k slot) (slot_start frames' k slot) (slot_end frames' k slot) out' at'
-        (start slot) (end slot) (slot_later W k slot (slot_start frames k slot) (slot_end frames k slot) out out' at at' g.same g.rise (b.slots slot m)))
-        (λ slot m l. omega (arith, start slot)) (λ slot r m e. omega (arith, start slot, this slot r m e))
+        passes b x others here (piece_passed f) out' at' bs h
+        (grows_between f.begin at at' out out' bs b.begins g ∙ ap (λ (l : List ℕ). l ++ bs) p.laid)
+        refl refl p.none b.eight (omega (arith, b.begins, g.rise)) g.ends
+        (λ slot m. slot_later W k slot (text_in f slot) out out' at at' g.same g.rise (b.slots slot m)) (λ slot m n. n) this
 
 -- ---- a placeholder
 
--- what a slot's text is once it stands
-pub slot_filled : (W : World) (k slot start end : ℕ) (out : List ℕ) (at from : ℕ) → SlotStands W k slot start end out at → start ≡ suc from
-    → (from ≤ end) × (end ≤ at) × (slot_filling W k slot ≡ done (between from end out))
-slot_filled W k slot start end out at from s e = subst (λ (x : ℕ). SlotStands W k slot x end out at) e s
-
 -- its trace where it is bound
-pub hole_bound : (W : World) (k slot : ℕ) (r : Bool) → (binding_in W.rows k slot).bound ≡ true
-    → slot_hole W k slot r ≡ (done (prefix (binding_in W.rows k slot) r) then slot_filling W k slot)
-hole_bound W k slot r h = rw h
+pub hole_bound : (W : World) (k slot : ℕ) (r : Bool) (b : Binding) → binding_of W k slot ≡ Some b → slot_hole W k slot r ≡ (Ok (prefix b r) then slot_filling W k slot)
+hole_bound W k slot r b h = rw h
 
-pub hole-unbound : (W : World) (k slot : ℕ) (r : Bool) → (binding_in W.rows k slot).bound ≡ false → slot_hole W k slot r ≡ stopped 0 Unbound
-hole-unbound W k slot r h = rw h
+pub hole_unbound : (W : World) (k slot : ℕ) (r : Bool) → binding_of W k slot ≡ None → slot_hole W k slot r ≡ stopped 0 Unbound
+hole_unbound W k slot r h = rw h
 
 -- its text begins behind its prefix
-pub slot_begins : (W : World) (k slot : ℕ) (r : Bool) (others : List Fragment) (frames frames' out out' : List ℕ) (at at' : ℕ)
-    → (p : Passing W k frames out at) → drop (passed_of frames k) (W.fragments k) ≡ captured slot r ∷ others → slot < 8 → k < W.count
-    → (binding_in W.rows k slot).bound ≡ true → Grows out out' at at' (prefix (binding_in W.rows k slot) r)
-    → SlotBegins frames k slot (binding_in W.rows k slot).start at' frames' → Filling W k frames' out' at'
-slot_begins W k slot r others frames frames' out out' at at' p here low inside bound g s =
-    let b = p.begun in let bs = prefix (binding_in W.rows k slot) r in let stays = s.stays in
+pub slot_begins : (W : World) (k slot : ℕ) (r : Bool) (others : List Fragment) (b : Binding) (f : Frame) (out out' : List ℕ) (at at' : ℕ)
+    → Passing W k f out at → drop f.passed (W.fragments k) ≡ captured slot r ∷ others → slot < 8 → k < count_of W → binding_of W k slot ≡ Some b
+    → Grows out out' at at' (prefix b r) → Filling W k (slot_begun k slot b.start at' f) out' at'
+slot_begins W k slot r others b f out out' at at' p here low inside bound g =
+    let n = p.begun in let bs = prefix b r in
+    let progress : Progress = record { from = b.start; origin = at'; next = k + 1; slot = slot } in
     record {
+      progress = progress;
       within = record {
-        begun = begun_stays b stays g.size g.same g.rise g.ends;
-        slot = slot;
+        begun = begun_later n (Some progress) out' at' g.same g.rise g.ends;
+        filling = refl;
         is_receiver = r;
         others = others;
         low = low;
-        filling = omega (arith, s.filling);
-        here = ap (λ (n : ℕ). drop n (W.fragments k)) stays.passed ∙ here;
+        here = here;
+        binding = b;
         bound = bound;
         sofar = [];
-        laid = ap (λ (a : ℕ). between a at' out') stays.begin ∙ grows_between (begin_of frames k) at at' out out' bs b.begins g
-            ∙ ap (λ (l : List ℕ). l ++ bs) p.laid ∙ ap (λ (l : List ℕ). concat b.texts ++ l) (sym (append-nil bs));
-        origin = omega (arith, s.origin);
-        rest = sym (rw (s.file, s.next) (nothing_then (slot_filling W k slot)));
+        laid = grows_between f.begin at at' out out' bs n.begins g ∙ ap (λ (l : List ℕ). l ++ bs) p.laid ∙ ap (λ (l : List ℕ). concat n.texts ++ l) (sym (append-nil bs));
+        origin = omega arith;
+        rest = ap (λ (s : ℕ). slot_fill W k slot s (end_in (binding_of W k slot))) (ap start_in bound) ∙ sym (nothing_then (rest_from W k b.start (k + 1) slot));
       };
-      behind = omega (arith, s.next);
-      inside = omega (arith, s.next);
+      behind = omega arith;
+      inside = omega arith;
     }
 
-module _ {W : World} {k : ℕ} {frames out : List ℕ} {at : ℕ} {left : ℕ → Trace} (w : Within W k frames out at left) where
+module _ {W : World} {k : ℕ} {f : Frame} {out : List ℕ} {at : ℕ} {p : Progress} {left : Trace} (w : Within W k f out at p left) where
   -- what stands of it in the buffer
   stood : List ℕ
-  stood = prefix (binding_in W.rows k w.slot) w.is_receiver ++ w.sofar
+  stood = prefix w.binding w.is_receiver ++ w.sofar
 
-  hole-left : slot_hole W k w.slot w.is_receiver ≡ (done stood then left w.slot)
+  hole-left : slot_hole W k p.slot w.is_receiver ≡ (Ok stood then left)
   unfolding stood
   hole-left =
-      let bs = prefix (binding_in W.rows k w.slot) w.is_receiver in
-      hole_bound W k w.slot w.is_receiver w.bound ∙ ap (λ (t : Trace). done bs then t) w.rest
-      ∙ sym (then_assoc (done bs) (done w.sofar) (left w.slot)) ∙ ap (λ (t : Trace). t then left w.slot) (done_then_done bs w.sofar)
+      let bs = prefix w.binding w.is_receiver in
+      hole_bound W k p.slot w.is_receiver w.binding w.bound ∙ ap (λ (t : Trace). Ok bs then t) w.rest
+      ∙ sym (then_assoc (Ok bs) (Ok w.sofar) left) ∙ ap (λ (t : Trace). t then left) (done_then_done bs w.sofar)
 
-  within-place : begin_of frames k + (length (concat w.begun.texts) + length stood) ≡ at
+  within-place : f.begin + (length (concat w.begun.texts) + length stood) ≡ at
   unfolding stood
   within-place =
       let b = w.begun in
-      omega (arith, sym (length-between (begin_of frames k) at out b.ends) ∙ ap length w.laid ∙ length-append (concat b.texts) stood, b.begins)
+      omega (arith, sym (length-between f.begin at out b.ends) ∙ ap length w.laid ∙ length-append (concat b.texts) stood, b.begins)
 
   -- what is left of it stops
-  pub within_stops : (n : ℕ) (e : Event) → left w.slot ≡ stopped n e → row_trace W k ≡ stopped ((at - begin_of frames k) + n) e
+  pub within_stops : (n : ℕ) (e : Event) → left ≡ stopped n e → row_trace W k ≡ stopped ((at - f.begin) + n) e
   within_stops n e h =
-      let q : length (concat w.begun.texts) + (length stood + n) ≡ (at - begin_of frames k) + n = omega (arith, within-place) in
-      row_stops w.begun (captured w.slot w.is_receiver) w.others w.here (length stood + n) e
-      (hole-left ∙ ap (λ (t : Trace). done stood then t) h ∙ done_then_stopped stood n e)
+      let q : length (concat w.begun.texts) + (length stood + n) ≡ (at - f.begin) + n = omega (arith, within-place) in
+      row_stops w.begun (captured p.slot w.is_receiver) w.others w.here (length stood + n) e
+      (hole-left ∙ ap (λ (t : Trace). Ok stood then t) h ∙ done_then_stopped stood n e)
       ∙ ap (λ (m : ℕ). stopped m e) q
 
   -- it is laid
-  pub within_reaches : at + reach (left w.slot) ≤ begin_of frames k + reach (row_trace W k)
+  pub within_reaches : at + reach left ≤ f.begin + reach (row_trace W k)
   within_reaches =
       omega (
         arith,
-        row_reaches w.begun (captured w.slot w.is_receiver) w.others w.here,
-        ap reach hole-left ∙ reach_done_then stood (left w.slot),
+        row_reaches w.begun (captured p.slot w.is_receiver) w.others w.here,
+        ap reach hole-left ∙ reach_done_then stood left,
         within-place,
       )
 
-  -- a part of it is laid
-  pub within-later : (frames' out' : List ℕ) (at' : ℕ) (bs : List ℕ) (left' : ℕ → Trace) → left w.slot ≡ (done bs then left' w.slot)
-      → Stays k frames frames' → filling_of frames' k ≡ filling_of frames k → origin_of frames' k ≡ origin_of frames k → Grows out out' at at' bs
-      → Within W k frames' out' at' left'
-  within-later frames' out' at' bs left' h s filling origin g =
-      let b = w.begun in let xs = concat b.texts in let ys = prefix (binding_in W.rows k w.slot) w.is_receiver in
+  -- a part of it is laid: the file goes on at a byte, and the rows at one
+  pub within_later : (filling : Option Progress) (from next : ℕ) (out' : List ℕ) (at' : ℕ) (bs : List ℕ) (left' : Trace) → filling ≡ Some (record p { from = from; next = next })
+      → left ≡ (Ok bs then left') → Grows out out' at at' bs → Within W k (record f { filling = filling }) out' at' (record p { from = from; next = next }) left'
+  within_later filling from next out' at' bs left' is h g =
+      let b = w.begun in let xs = concat b.texts in let ys = prefix w.binding w.is_receiver in
       let n : length (between at at' out') ≡ at' - at = length-between at at' out' g.ends in
       record {
-        begun = begun_stays b s g.size g.same g.rise g.ends;
-        slot = w.slot;
+        begun = begun_later b filling out' at' g.same g.rise g.ends;
+        filling = is;
         is_receiver = w.is_receiver;
         others = w.others;
         low = w.low;
-        filling = filling ∙ w.filling;
-        here = ap (λ (m : ℕ). drop m (W.fragments k)) s.passed ∙ w.here;
+        here = w.here;
+        binding = w.binding;
         bound = w.bound;
         sofar = w.sofar ++ bs;
-        laid = ap (λ (a : ℕ). between a at' out') s.begin ∙ grows_between (begin_of frames k) at at' out out' bs b.begins g
+        laid = grows_between f.begin at at' out out' bs b.begins g
             ∙ ap (λ (l : List ℕ). l ++ bs) w.laid ∙ append_assoc xs (ys ++ w.sofar) bs ∙ ap (λ (l : List ℕ). xs ++ l) (append_assoc ys w.sofar bs);
-        origin = omega (arith, length-append w.sofar bs, w.origin, origin, n, ap length g.new, g.rise);
-        rest = w.rest ∙ ap (λ (t : Trace). done w.sofar then t) h ∙ sym (then_assoc (done w.sofar) (done bs) (left' w.slot))
-            ∙ ap (λ (t : Trace). t then left' w.slot) (done_then_done w.sofar bs);
+        origin = omega (arith, length-append w.sofar bs, w.origin, n, ap length g.new, g.rise);
+        rest = w.rest ∙ ap (λ (t : Trace). Ok w.sofar then t) h ∙ sym (then_assoc (Ok w.sofar) (Ok bs) left')
+            ∙ ap (λ (t : Trace). t then left') (done_then_done w.sofar bs);
       }
 
   -- the text of a nested row comes next
-  pub waits : (j : ℕ) (frames' out' : List ℕ) (at' : ℕ) (bs : List ℕ)
-      → left w.slot ≡ (done bs then (row_trace W j then rest_from W k (W.end_of j) (j + 1) w.slot))
-      → Stays k frames frames' → filling_of frames' k ≡ filling_of frames k → origin_of frames' k ≡ origin_of frames k → Grows out out' at at' bs
-      → k < j → j < W.count → is_nested W.rows k w.slot j ≡ true → next_of frames' k ≡ j + 1 → from_of frames' k ≡ W.end_of j
-      → Waiting W k j frames' out' at'
-  unfolding within-later
-  waits j frames' out' at' bs h s filling origin g behind inside nested next from = record {
-    within = within-later frames' out' at' bs (λ slot. row_trace W j then rest_from W k (W.end_of j) (j + 1) slot) h s filling origin g;
+  pub waits : (j : ℕ) (out' : List ℕ) (at' : ℕ) (bs : List ℕ)
+      → left ≡ (Ok bs then (row_trace W j then rest_from W k (W.end_of j) (j + 1) p.slot)) → Grows out out' at at' bs
+      → k < j → j < count_of W → is_nested W.rows k p.slot j ≡ true → Waiting W k j (row_passed p j (W.end_of j) f) out' at'
+  waits j out' at' bs h g behind inside nested = record {
+    progress = record p { from = W.end_of j; next = j + 1 };
+    within = within_later (Some (record p { from = W.end_of j; next = j + 1 })) (W.end_of j) (j + 1) out' at' bs (row_trace W j then rest_from W k (W.end_of j) (j + 1) p.slot) refl h g;
     behind = behind;
     inside = inside;
     nested = nested;
-    next = next;
-    from = from;
+    next = refl;
+    from = refl;
   }
 
   -- the rest of it is
-  pub slot_ends : (frames' out' : List ℕ) (at' : ℕ) (bs : List ℕ) → left w.slot ≡ done bs → Grows out out' at at' bs
-      → SlotEnds frames k w.slot at' frames' → Passing W k frames' out' at'
+  pub slot_ends : (out' : List ℕ) (at' : ℕ) (bs : List ℕ) → left ≡ Ok bs → Grows out out' at at' bs → Passing W k (slot_ended p at' f) out' at'
   unfolding stood
-  slot_ends frames' out' at' bs h g s =
-      let b = w.begun in let slot = w.slot in let xs = concat b.texts in let ys = prefix (binding_in W.rows k slot) w.is_receiver in
-      let o = origin_of frames k in
+  slot_ends out' at' bs h g =
+      let b = w.begun in let slot = p.slot in let xs = concat b.texts in let ys = prefix w.binding w.is_receiver in
+      let o = p.origin in
+      let span : Option Span = Some (record { start = o; end = at' }) in
       let n : o + length w.sofar ≡ at = w.origin in
       let part : between o at out ≡ w.sofar =
-      between_end (begin_of frames k) o at out (xs ++ ys) w.sofar b.begins b.ends (w.laid ∙ sym (append_assoc xs ys w.sofar)) n in
-      let this : SlotStands W k slot (suc o) at' out' at' = (
+      between_end f.begin o at out (xs ++ ys) w.sofar b.begins b.ends (w.laid ∙ sym (append_assoc xs ys w.sofar)) n in
+      let this : SlotStands W k slot span out' at' = (
         omega (arith, g.rise),
         omega arith,
-        w.rest ∙ ap (λ (t : Trace). done w.sofar then t) h ∙ done_then_done w.sofar bs
-            ∙ ap done (sym (grows_between o at at' out out' bs (omega arith) g ∙ ap (λ (l : List ℕ). l ++ bs) part)),
+        w.rest ∙ ap (λ (t : Trace). Ok w.sofar then t) h ∙ done_then_done w.sofar bs
+            ∙ ap (λ (l : List ℕ). Ok l) (sym (grows_between o at at' out out' bs (omega arith) g ∙ ap (λ (l : List ℕ). l ++ bs) part)),
       ) in
-      passes b (captured slot w.is_receiver) w.others w.here frames' out' at' (stood ++ bs)
-      (hole-left ∙ ap (λ (t : Trace). done stood then t) h ∙ done_then_done stood bs)
-      (grows_between (begin_of frames k) at at' out out' bs b.begins g ∙ ap (λ (l : List ℕ). l ++ bs) w.laid ∙ append_assoc xs stood bs)
-      s.begin s.passed s.filling (omega (arith, b.begins, g.rise)) g.ends
+      let here : text_in (slot_ended p at' f) slot ≡ span = get_or-set_same f.texts slot span None (omega (arith, b.eight, w.low)) in
+      let elsewhere : (other : ℕ) → (other ≡ slot → ⊥) → text_in (slot_ended p at' f) other ≡ text_in f other = λ other e. get_or-set_other f.texts slot other span None e in
+      let stands : (t : Option Span) → t ≡ span → t ≡ None → ⊥ = λ t e m. none-some (record { start = o; end = at' }) (sym m ∙ e) in
+      passes b (captured slot w.is_receiver) w.others w.here (slot_ended p at' f) out' at' (stood ++ bs)
+      (hole-left ∙ ap (λ (t : Trace). Ok stood then t) h ∙ done_then_done stood bs)
+      (grows_between f.begin at at' out out' bs b.begins g ∙ ap (λ (l : List ℕ). l ++ bs) w.laid ∙ append_assoc xs stood bs)
+      refl refl refl (length-set f.texts slot span ∙ b.eight) (omega (arith, b.begins, g.rise)) g.ends
       (λ other m. same_or other slot
-      (λ e. subst (λ (x : ℕ). SlotStands W k x (slot_start frames' k x) (slot_end frames' k x) out' at') (sym e)
-      (slot_as W k slot (suc o) at' (slot_start frames' k slot) (slot_end frames' k slot) out' at' s.start s.end this))
-      (λ e. slot_as W k other (slot_start frames k other) (slot_end frames k other) (slot_start frames' k other) (slot_end frames' k other) out' at'
-      (s.starts other m e) (s.ends other m e)
-      (slot_later W k other (slot_start frames k other) (slot_end frames k other) out out' at at' g.same g.rise (b.slots other m))))
-      (λ other m l. same_or other slot (λ e. rw e (omega (arith, s.start))) (λ e. omega (arith, s.starts other m e)))
-      (λ other r m e. let f : other ≡ slot = cc in rw f (omega (arith, s.start)))
+      (λ e. subst (λ (x : ℕ). SlotStands W k x (text_in (slot_ended p at' f) x) out' at') (sym e) (subst (λ (s : Option Span). SlotStands W k slot s out' at') (sym here) this))
+      (λ e. subst (λ (s : Option Span). SlotStands W k other s out' at') (sym (elsewhere other e)) (slot_later W k other (text_in f other) out out' at at' g.same g.rise (b.slots other m))))
+      (λ other m l. same_or other slot (λ e. absurd (stands (text_in (slot_ended p at' f) other) (ap (text_in (slot_ended p at' f)) e ∙ here) l)) (λ e. sym (elsewhere other e) ∙ l))
+      (λ other r m e l. let q : other ≡ slot = cc in stands (text_in (slot_ended p at' f) other) (ap (text_in (slot_ended p at' f)) q ∙ here) l)

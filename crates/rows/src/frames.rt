@@ -1,86 +1,92 @@
 // How far each text has come.
-ghost use Rattle.std.specs.Prelude.{◌≡◌, ◌+◌, ◌*◌, ◌≤◌, ◌<◌, length};
-ghost use Rattle.rows.specs.Frames.{frame_word, passed_of, origin_of, put_word, cleared, entered, slot_begun, row_passed, piece_passed, slot_ended};
+ghost use Rattle.std.specs.Prelude.{◌≡◌, ◌+◌, ◌^◌, ◌<◌};
+ghost use Rattle.rows.specs.Frames.{frame_at, slot_begun, row_passed, piece_passed, slot_ended};
 
-use words::fields;
-
-// A word of a frame.
-pub fn word(frames: &[u32], k: usize, i: usize) -> usize
-    requires { (k ≤ 1024) × (i < 22) }
-    ensures { (result ≡ frame_word frames.now k i) × (result < 4294967296) }
-{
-    fields::word(frames, 22 * k + i) as usize
+// Where a text stands in the buffer.
+#[derive(Clone, Copy)]
+pub struct Span {
+    pub start: u32,
+    pub end: u32,
 }
 
-// Sets a word of a frame.
-pub fn put(frames: &mut [u32], k: usize, i: usize, value: usize)
-    requires { (k ≤ 1024) × (i < 22) × (22 * k + 22 ≤ length frames.old) × (value < 4294967296) }
-    ensures { frames.new ≡ put_word frames.old k i value }
-{
-    frames[22 * k + i] = value as u32;
+// A captured text that is being filled: the next byte of the file, where the text begins, the next row to look at, and the slot.
+#[derive(Clone, Copy)]
+pub struct Progress {
+    pub from: u32,
+    pub origin: u32,
+    pub next: u16,
+    pub slot: u8,
 }
 
-// No slot is rendered yet.
-fn clear_slots(frames: &mut [u32], k: usize)
-    requires { (k ≤ 1024) × (22 * k + 22 ≤ length frames.old) }
-    ensures { frames.new ≡ cleared frames.old k 8 }
-{
-    let mut slot = 0;
-    while slot < 8 {
-        frames[22 * k + (6 + slot)] = 0;
-        slot += 1;
+// How far the text of a row has come: where it begins, how many fragments are passed, the captured text that is being filled, if any, and
+// where that of each slot stands, once it is rendered. A job has as many of them on the stack as rows, so that they are small.
+#[derive(Clone, Copy)]
+pub struct Frame {
+    pub begin: u32,
+    pub passed: u32,
+    pub filling: Option<Progress>,
+    pub texts: [Option<Span>; 8],
+}
+
+const _: () = prove!(size_of::<Frame>() == 120);
+
+impl Frame {
+    // A text begins at a place.
+    pub fn at(begin: usize) -> Frame
+        requires { begin < 2 ^ 32 }
+        ensures { result ≡ frame_at begin }
+    {
+        Frame {
+            begin: begin as u32,
+            passed: 0,
+            filling: None,
+            texts: [None; 8],
+        }
     }
-}
 
-// A text begins at a place.
-pub fn enter(frames: &mut [u32], k: usize, at: usize)
-    requires { (k ≤ 1024) × (22 * k + 22 ≤ length frames.old) × (at < 4294967296) }
-    ensures { frames.new ≡ entered frames.old k at }
-{
-    put(frames, k, 0, at);
-    put(frames, k, 1, 0);
-    put(frames, k, 2, 0);
-    clear_slots(frames, k);
-}
+    // A slot's text of row k is to be filled, from a byte of the file on; it begins at a place.
+    pub fn begin_slot(&mut self, k: usize, slot: usize, from: usize, at: usize)
+        requires { (k < 65535) × (slot < 8) × (from < 2 ^ 32) × (at < 2 ^ 32) }
+        ensures { self.new ≡ slot_begun k slot from at self.old }
+    {
+        self.filling = Some(Progress {
+            from: from as u32,
+            origin: at as u32,
+            next: (k + 1) as u16,
+            slot: slot as u8,
+        });
+    }
 
-// A slot's text is to be filled, from a byte of the file on; it begins at a place.
-pub fn begin_slot(frames: &mut [u32], k: usize, slot: usize, from: usize, at: usize)
-    requires { (k ≤ 1024) × (22 * k + 22 ≤ length frames.old) × (slot < 8) × (from < 4294967296) × (at < 4294967296) }
-    ensures { frames.new ≡ slot_begun frames.old k slot from at }
-{
-    put(frames, k, 2, slot + 1);
-    put(frames, k, 3, k + 1);
-    put(frames, k, 4, from);
-    put(frames, k, 5, at);
-}
+    // The row nested next in a captured text is found; the file goes on at a byte behind it.
+    pub fn pass_row(&mut self, progress: Progress, row: usize, from: usize)
+        requires { (row < 65535) × (from < 2 ^ 32) }
+        ensures { self.new ≡ row_passed progress row from self.old }
+    {
+        self.filling = Some(Progress {
+            from: from as u32,
+            next: (row + 1) as u16,
+            ..progress
+        });
+    }
 
-// The row nested next is found; the file goes on at a byte behind it.
-pub fn pass_row(frames: &mut [u32], k: usize, row: usize, from: usize)
-    requires { (k ≤ 1024) × (22 * k + 22 ≤ length frames.old) × (row ≤ 1024) × (from < 4294967296) }
-    ensures { frames.new ≡ row_passed frames.old k row from }
-{
-    put(frames, k, 3, row + 1);
-    put(frames, k, 4, from);
-}
+    // A fragment's text is laid.
+    pub fn pass_piece(&mut self)
+        requires { self.old.passed + 1 < 2 ^ 32 }
+        ensures { self.new ≡ piece_passed self.old }
+    {
+        self.passed += 1;
+    }
 
-// A fragment's text is laid.
-pub fn pass_piece(frames: &mut [u32], k: usize)
-    requires { (k ≤ 1024) × (22 * k + 22 ≤ length frames.old) × (passed_of frames.old k + 1 < 4294967296) }
-    ensures { frames.new ≡ piece_passed frames.old k }
-{
-    let passed = word(frames, k, 1);
-    put(frames, k, 1, passed + 1);
-}
-
-// A slot's text is filled up to a place.
-pub fn end_slot(frames: &mut [u32], k: usize, slot: usize, at: usize)
-    requires k_bound { (k ≤ 1024) × (22 * k + 22 ≤ length frames.old) × (slot < 8) × (at < 4294967296) }
-    requires k_bound_2 { (passed_of frames.old k + 1 < 4294967296) × (origin_of frames.old k + 1 < 4294967296) }
-    ensures { frames.new ≡ slot_ended frames.old k slot at }
-{
-    let origin = word(frames, k, 5);
-    put(frames, k, 6 + slot, origin + 1);
-    put(frames, k, 14 + slot, at);
-    put(frames, k, 2, 0);
-    pass_piece(frames, k);
+    // A captured text is filled up to a place.
+    pub fn end_slot(&mut self, progress: Progress, at: usize)
+        requires { (progress.slot < 8) × (at < 2 ^ 32) × (self.old.passed + 1 < 2 ^ 32) }
+        ensures { self.new ≡ slot_ended progress at self.old }
+    {
+        self.texts[progress.slot as usize] = Some(Span {
+            start: progress.origin,
+            end: at as u32,
+        });
+        self.filling = None;
+        self.pass_piece();
+    }
 }

@@ -1,4 +1,4 @@
-// A job's matches as they are rendered: rows of words, the templates in tables of numbers, and how far each text has come.
+// A job's matches as they are rendered: the rows, the fragments of their templates, and how far each text has come.
 #![tactic(auto)]
 
 pub mod told; // told.rt: a fragment of a template

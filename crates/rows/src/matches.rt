@@ -1,65 +1,51 @@
 // The rows.
-ghost use Rattle.std.specs.Prelude.{◌≡◌, true, false, ℕ, ◌+◌, ◌*◌, ◌≤◌, ◌<◌, length};
+ghost use Rattle.std.specs.Prelude.{◌≡◌, true, false, ℕ, ◌+◌, ◌≤◌, ◌<◌, length, MatchOption};
 ghost use Rattle.rendering.specs.Texts.{prefix};
-ghost use Rattle.nester.specs.Rows.{field, binding_in};
-ghost use Rattle.rows.specs.Rows.{binding_word, is_nested};
+ghost use Rattle.rows.specs.Rows.{is_inside, is_nested};
 
-use words::fields;
+use captures::{Binding, SelfKind};
+use nester::{Nesting, Row};
 
-// A word of a row: 0 its node, 1 its rule, 2 its state, 3 the slot that it is nested in.
-pub fn word(rows: &[u32], k: usize, i: usize) -> u32
-    requires { (k ≤ 1024) × (i < 44) }
-    ensures { result ≡ field rows.now k i }
+// Whether a row is nested in a slot of row k.
+pub fn is_inside(row: &Row, k: usize, slot: usize) -> bool
+    ensures { result ≡ is_inside k slot row.now.state }
 {
-    fields::word(rows, k * 44 + i)
-}
-
-// A word of a binding: 0 whether it is bound (1 where it is), 1 start, 2 end, 3 stars, 4 self kind.
-pub fn binding(rows: &[u32], k: usize, slot: usize, i: usize) -> u32
-    requires { (k ≤ 1024) × (slot < 8) × (i < 5) }
-    ensures { result ≡ binding_word rows.now k slot i }
-{
-    fields::word(rows, k * 44 + (4 + i + slot * 5))
-}
-
-// Whether row j is nested in a slot of row k.
-pub fn is_nested(rows: &[u32], k: usize, slot: usize, j: usize) -> bool
-    requires { (k ≤ 1024) × (j ≤ 1024) }
-    ensures { result ≡ is_nested rows.now k slot j }
-{
-    (word(rows, j, 2) as usize == k + 3) & (word(rows, j, 3) as usize == slot)
-}
-
-// The first row from j on, and before the end, that is nested in a slot of row k; the end, or j behind it, where there is none.
-pub fn next_nested(rows: &[u32], k: usize, slot: usize, j: usize, end: usize) -> usize
-    requires { (k ≤ 1024) × (end ≤ 1024) }
-    ensures { (j ≤ result) × (result < end → is_nested rows.now k slot result ≡ true) × ((i : ℕ) → j ≤ i → i < result → is_nested rows.now k slot i ≡ false) }
-{
-    let mut i = j;
-    while i < end {
-        if is_nested(rows, k, slot, i) {
-            return i;
-        }
-        i += 1;
+    match row.state {
+        Nesting::Inside {
+            row: holder,
+            slot: taken,
+        } => (holder as usize == k) & (taken as usize == slot),
+        _ => false,
     }
-    i
+}
+
+// The first row from j on, and before the end, that is nested in a slot of row k.
+pub fn next_nested(rows: &[Row], k: usize, slot: usize, j: usize, end: usize) -> Option<usize>
+    requires { end ≤ length rows.now }
+    ensures { MatchOption result
+        ((i : ℕ) → j ≤ i → i < end → is_nested rows.now k slot i ≡ false)
+        (λ n. (j ≤ n) × (n < end) × (is_nested rows.now k slot n ≡ true)
+        × ((i : ℕ) → j ≤ i → i < n → is_nested rows.now k slot i ≡ false)) }
+{
+    for i in j..end {
+        if is_inside(&rows[i], k, slot) {
+            return Some(i);
+        }
+    }
+    None
 }
 
 // How many bytes the prefix of a placeholder has.
-pub fn prefix_length(rows: &[u32], k: usize, slot: usize, receiver: bool) -> usize
-    requires { (k ≤ 1024) × (slot < 8) }
-    ensures { result ≡ length (prefix (binding_in rows.now k slot) receiver) }
+pub fn prefix_length(binding: &Binding, is_receiver: bool) -> usize
+    ensures { result ≡ length (prefix binding.now is_receiver) }
 {
-    if receiver {
+    if is_receiver {
         return 0;
     }
-    let kind = binding(rows, k, slot, 4);
-    let stars = binding(rows, k, slot, 3) as usize;
-    if kind == 1 {
-        return 1 + stars;
+    let stars = binding.stars as usize;
+    match binding.self_kind {
+        SelfKind::Owned => stars,
+        SelfKind::Ref => 1 + stars,
+        SelfKind::RefMut => 5 + stars,
     }
-    if kind == 2 {
-        return 5 + stars;
-    }
-    stars
 }

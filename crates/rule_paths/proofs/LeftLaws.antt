@@ -1,158 +1,128 @@
 -- A rule of a number is one of those left, its trees resolve, and its pair passed its checks.
 -- Assumes nothing.
-use mathlib.Core.Path.{◌≡◌, refl, sym, ap, ◌∙◌}
-use mathlib.Core.Bool.{Bool, true, false, false≢true}
-use mathlib.Core.List.{List, [], ◌∷◌, map}
-use Prim.Native.Nat.{ℕ, zero, suc, ◌+◌, ◌-◌, ◌≤◌, ◌<◌}
-use native.Mathlib.Omega.{arith}
-use lib.ListN.{length, drop, get_or}
+use Rattle.std.proofs.Common.{◌≡◌, refl, sym, ◌∙◌, Bool, true, false, List, [], ◌∷◌, map, ℕ, zero, suc, ◌+◌, ◌-◌, ◌≤◌, length, Option, Some, None, Ok, slice_get, arith}
+use Rattle.std.specs.List.{AllByRecursion}
 use Rattle.errors.specs.Refusals.{ok}
-use Rattle.words.proofs.TestLaws.{or_neither, low_or}
-use Rattle.syntax.specs.Trees.{tree}
-use Rattle.fragments.specs.Directory.{counted, row_count}
-use Rattle.fragments.proofs.PairLaws.{pair_here, pair_suc}
-use Rattle.fragments.specs.Pairs.{Pair, pair_of, pairs_of, pairs, pair_at, five}
+use Rattle.words.proofs.TestLaws.{or_neither}
+use Rattle.fragments.specs.declared.forms.Form.{Form}
+use Rattle.fragments.specs.declared.forms.Form.TheVariants as form
+use Rattle.fragments.specs.declared.forms.Side.TheVariants as side
+use Rattle.fragments.specs.Forms.{five}
+use Rattle.fragments.specs.Directory.{row_count}
+use Rattle.fragments.specs.Pairs.{Pair, first_pair, next_pair, pairs_from, pair_behind, pair_at, pairs_in}
 use Rattle.rules.specs.declared.numbering.Rule.{Rule}
-use Rattle.rules.specs.declared.numbering.Found.{Found}
-use Rattle.rules.specs.declared.numbering.Found.TheVariants.{NoSuchRule, At}
 use Rattle.rules.specs.declared.stages.Stage.{Stage}
-use Rattle.rules.specs.declared.stages.Stage.TheVariants.{TreesWithFacts}
-use Rattle.rules.specs.Forms.{template_tree, any, is_left, kept, forms_left}
+use Rattle.rules.specs.declared.stages.Stage.TheVariants.{Trees}
+use Rattle.rules.specs.Forms.{template_tree, any, is_left, forms_left}
 use Rattle.rules.specs.Stages.{pair_stage, stage_outcome}
-use Rattle.rules.specs.Numbering.{rule_of, rules_from, rules, rule_at}
-use Rattle.rules.proofs.StageLaws.{stage-both}
-use Rattle.rules.proofs.RuleLaws.{at_first, at-later, at_none}
-use Rattle.rule_paths.specs.RulePaths.{tree_fails, template_fails, rule_fails, form_fails, pair_fails}
-use Rattle.rule_paths.specs.Needs.{Left, Passed}
-use Rattle.rule_paths.proofs.FailLaws.{five-at, pairs_next}
+use Rattle.rules.specs.Numbering.{rule_of, rules_from}
+use Rattle.rules.proofs.FormLaws.{passing_hold}
+use Rattle.rules.proofs.StageLaws.{stage_both}
+use Rattle.rules.proofs.RuleLaws.{at_here, at_behind, at_none}
+use Rattle.checks.specs.declared.Rules.{Rules}
+use Rattle.checks.specs.Given.{rule_trees, found_rule}
+use Rattle.paths.specs.Resolved.{resolving}
+use Rattle.rule_paths.specs.RulePaths.{tree_at, tree_fails, template_form, template_fails, rule_fails, form_fails, pair_fails}
+use Rattle.rule_paths.specs.Needs.{Passed, IsLeft}
+use Rattle.rule_paths.proofs.FailLaws.{template_in}
 
--- one after the other, none of several holds
-none_of : (l : List Bool) (i : ℕ) → any l ≡ false → get_or l i false ≡ false
-unfolding any
-none_of [] i h = refl
-none_of (b ∷ bs) zero h = (or_neither b (any bs) h).0
-none_of (b ∷ bs) (suc i) h = none_of bs i (or_neither b (any bs) h).1
+-- what holds of all holds of the one at a place
+all_get : {A : Type 0} (P : A → Type 0) (l : List A) (i : ℕ) (x : A) → AllByRecursion P l → slice_get l i ≡ Some x → P x
+all_get P [] i x a h = absurd cc
+all_get P (y ∷ ys) zero x a h = let e : y ≡ x = cc in (rw e at a.0)
+all_get P (y ∷ ys) (suc i) x a h = all_get P ys i x a.1 h
 
-form_good : (p : Pair) (form : ℕ) → form ≤ 4 → pair_fails p ≡ false → form_fails p form ≡ false
-unfolding pair_fails
-form_good p form k h = sym (five-at (form_fails p) false form k) ∙ none_of (five (form_fails p)) form h
+stage_get : (stage : Stage) (ps : List Pair) (i : ℕ) (p : Pair) → stage_outcome stage ps ≡ ok → slice_get ps i ≡ Some p → pair_stage stage p ≡ ok
+stage_get stage [] i p a h = absurd cc
+stage_get stage (y ∷ ys) zero p a h = let e : y ≡ p = cc in (rw e at (stage_both stage y ys a).0)
+stage_get stage (y ∷ ys) (suc i) p a h = stage_get stage ys i p (stage_both stage y ys a).1 h
 
--- the trees of a rule that is left resolve
-module _ (p : Pair) (r : Rule) (l : Left p r) where
-  rule_good : rule_fails p r.form ≡ false
-  rule_good = rw l.left at (form_good p r.form l.low l.good)
+good_get : (ps : List Pair) (i : ℕ) (p : Pair) → any (map pair_fails ps) ≡ false → slice_get ps i ≡ Some p → pair_fails p ≡ false
+good_get [] i p a h = absurd cc
+good_get (y ∷ ys) zero p a h = let e : y ≡ p = cc in (rw e at (or_neither (pair_fails y) (any (map pair_fails ys)) a).0)
+good_get (y ∷ ys) (suc i) p a h = good_get ys i p (or_neither (pair_fails y) (any (map pair_fails ys)) a).1 h
 
-  pub pattern_good : tree_fails p 0 r.form ≡ false
-  pattern_good = (or_neither (template_fails p r.form (template_tree p r.form)) (tree_fails p 0 r.form) rule_good).1
-
-  pub template_good : template_fails p r.form r.template ≡ false
-  template_good = rw l.tree (or_neither (template_fails p r.form (template_tree p r.form)) (tree_fails p 0 r.form) rule_good).0
-
--- what holds of all pairs holds of the pair of a number
-pub stage_at : (stage : Stage) (m n j : ℕ) (d w b : List ℕ) → stage_outcome stage m (pairs_of n d w b) ≡ ok → j < n → pair_stage stage m (pair_at j d w b) ≡ ok
-stage_at stage m zero j d w b h k = absurd (omega arith)
-stage_at stage m (suc n) zero d w b h k = rw (pair_here d w b) (stage-both stage m (suc n) d w b (omega arith) h).0
-stage_at stage m (suc n) (suc j) d w b h k =
-    let e : suc n - 1 ≡ n = omega arith in
-    let o = (stage-both stage m (suc n) d w b (omega arith) h).1 in
-    rw (pair_suc j d w b) (stage_at stage m n j (drop 27 d) (drop (counted true d) w) (drop (counted false d) b) (rw e at o) (omega arith))
-
-pub good_at : (n j : ℕ) (d w b : List ℕ) → any (map pair_fails (pairs_of n d w b)) ≡ false → j < n → pair_fails (pair_at j d w b) ≡ false
-good_at zero j d w b h k = absurd (omega arith)
-good_at (suc n) zero d w b h k =
-    let o = or_neither (pair_fails (pair_of d w b)) _ (sym (pairs_next (suc n) d w b (omega arith)) ∙ h) in
-    rw (pair_here d w b) o.0
-good_at (suc n) (suc j) d w b h k =
-    let e : suc n - 1 ≡ n = omega arith in
-    let o = (or_neither (pair_fails (pair_of d w b)) _ (sym (pairs_next (suc n) d w b (omega arith)) ∙ h)).1 in
-    rw (pair_suc j d w b) (good_at n j (drop 27 d) (drop (counted true d) w) (drop (counted false d) b) (rw e at o) (omega arith))
-
--- a number that is kept is that of a test that holds
-abbrev Holds : ℕ → List Bool → ℕ → Type 0
-Holds i l f = (i ≤ f) × (f < i + length l) × (get_or l (f - i) false ≡ true)
-
-holds_later : (i : ℕ) (b : Bool) (bs : List Bool) (f : ℕ) → Holds (i + 1) bs f → Holds i (b ∷ bs) f
-holds_later i b bs f x =
-    let e : f - i ≡ suc (f - (i + 1)) = omega (arith, x.0) in
-    (omega (arith, x.0), omega (arith, x.1), ap (λ (k : ℕ). get_or (b ∷ bs) k false) e ∙ x.2)
-
-kept-holds : (l : List Bool) (i n : ℕ) → n < length (kept i l) → Holds i l (get_or (kept i l) n 0)
-unfolding kept
-kept-holds [] i n h = absurd (omega arith)
-kept-holds (true ∷ bs) i zero h = let e : i - i ≡ 0 = omega arith in (omega arith, omega arith, rw e)
-kept-holds (true ∷ bs) i (suc n) h = holds_later i true bs _ (kept-holds bs (i + 1) n (omega arith))
-kept-holds (false ∷ bs) i n h = holds_later i false bs _ (kept-holds bs (i + 1) n h)
+behind_get : (n i : ℕ) (p x : Pair) → slice_get (pairs_from n p) i ≡ Some x → pair_behind i p ≡ x
+unfolding pairs_from pair_behind
+behind_get zero i p x h = absurd cc
+behind_get (suc n) zero p x h = cc
+behind_get (suc n) (suc i) p x h = behind_get n i (next_pair p) x h
 
 -- the rule of a number is one of its pair's that are left
-pub record FoundLeft (k n : ℕ) (d w b : List ℕ) (r : Rule) : Type 0 where
-  pub from : k ≤ r.pair
-  pub within : r.pair - k < n
-  pub low : r.form ≤ 4
-  pub left : is_left (pair_at (r.pair - k) d w b) r.form ≡ true
-  pub tree : r.template ≡ template_tree (pair_at (r.pair - k) d w b) r.form
+record Found (k : ℕ) (ps : List Pair) (r : Rule) : Type 0 where
+  pair : Pair
+  from : k ≤ r.pair
+  at : slice_get ps (r.pair - k) ≡ Some pair
+  left : is_left pair r.form ≡ true
+  tree : r.template ≡ template_tree pair r.form
 
-abbrev rule_in : Rule → Found → Rule
-rule_in other NoSuchRule = other
-rule_in other (At r) = r
+found_here : (k : ℕ) (p : Pair) (ps : List Pair) (q : ℕ) (r : Rule) (f : Form) → slice_get (rules_from k (p ∷ ps)) q ≡ Some r → slice_get (forms_left p) q ≡ Some f → Found k (p ∷ ps) r
+found_here k p ps q r f h e =
+    let same : rule_of k p f ≡ r = (let s = sym (at_here k p ps q f e) ∙ h in cc) in
+    let z : k - k ≡ 0 = omega arith in
+    rw (← same) (record {
+      pair = p;
+      from = omega arith;
+      at = rw z refl;
+      left = all_get (λ g. is_left p g ≡ true) (forms_left p) q f (passing_hold (is_left p) (five (λ g. g))) e;
+      tree = refl;
+    })
 
-abbrev is_at : Found → Bool
-is_at NoSuchRule = false
-is_at (At r) = true
-
-found_here : (k n : ℕ) (d w b : List ℕ) (r : Rule) (f : ℕ) → f ≤ 4 → is_left (pair_of d w b) f ≡ true → rule_of k (pair_of d w b) f ≡ r → 0 < n → FoundLeft k n d w b r
-found_here k n d w b r f low left e h =
-    rw (← e) (record { from = omega arith; within = omega arith; low = low; left = at_pair left; tree = tree-at })
-  where
-    same : k - k ≡ 0
-    same = omega arith
-
-    at_pair : is_left (pair_of d w b) f ≡ true → is_left (pair_at (k - k) d w b) f ≡ true
-    at_pair l = rw (same, pair_here d w b) l
-
-    tree-at : template_tree (pair_of d w b) f ≡ template_tree (pair_at (k - k) d w b) f
-    tree-at = rw (same, pair_here d w b)
-
-found_further : (k n : ℕ) (d w b : List ℕ) (r : Rule) → FoundLeft (k + 1) n (drop 27 d) (drop (counted true d) w) (drop (counted false d) b) r → FoundLeft k (suc n) d w b r
-found_further k n d w b r x =
+found_further : (k : ℕ) (p : Pair) (ps : List Pair) (r : Rule) → Found (k + 1) ps r → Found k (p ∷ ps) r
+found_further k p ps r x =
     let e : r.pair - k ≡ suc (r.pair - (k + 1)) = omega (arith, x.from) in
-    record { from = omega (arith, x.from); within = omega (arith, x.from, x.within); low = x.low; left = rw (e, pair_suc (r.pair - (k + 1)) d w b) x.left; tree = rw (e, pair_suc (r.pair - (k + 1)) d w b) x.tree }
+    record { pair = x.pair; from = omega (arith, x.from); at = rw e x.at; left = x.left; tree = x.tree }
 
-found_first : (n k : ℕ) (d w b : List ℕ) (q : ℕ) (r : Rule) → 0 < n → rule_at (rules_from k (pairs_of n d w b)) q ≡ At r → q < length (forms_left (pair_of d w b)) → FoundLeft k n d w b r
-found_first n k d w b q r g h l =
-    let x = kept-holds (five (is_left (pair_of d w b))) 0 q l in
-    let f = get_or (forms_left (pair_of d w b)) q 0 in
-    let z : f - 0 ≡ f = omega arith in
-    let low : f ≤ 4 = omega (arith, x.1) in
-    let left : is_left (pair_of d w b) f ≡ true = sym (five-at (is_left (pair_of d w b)) false f low) ∙ (rw z at x.2) in
-    found_here k n d w b r f low left (ap (rule_in r) (sym (at_first k n d w b q g l) ∙ h)) g
+found_by : (k : ℕ) (p : Pair) (ps : List Pair) (q : ℕ) (r : Rule) → (slice_get (rules_from (k + 1) ps) (q - length (forms_left p)) ≡ Some r → Found (k + 1) ps r)
+    → slice_get (rules_from k (p ∷ ps)) q ≡ Some r → (o : Option Form) → slice_get (forms_left p) q ≡ o → Found k (p ∷ ps) r
+found_by k p ps q r further h (Some f) e = found_here k p ps q r f h e
+found_by k p ps q r further h None e = found_further k p ps r (further (sym (at_behind k p ps q e) ∙ h))
 
-others_at : (n k : ℕ) (d w b : List ℕ) (q : ℕ) (r : Rule) → rule_at (rules_from k (pairs_of (suc n) d w b)) q ≡ At r → length (forms_left (pair_of d w b)) ≤ q
-    → rule_at (rules_from (k + 1) (pairs_of n (drop 27 d) (drop (counted true d) w) (drop (counted false d) b))) (q - length (forms_left (pair_of d w b))) ≡ At r
-others_at n k d w b q r h l =
-    let e : suc n - 1 ≡ n = omega arith in
-    let o = sym (at-later k (suc n) d w b q (omega arith) l) ∙ h in
-    rw e at o
+found : (ps : List Pair) (k q : ℕ) (r : Rule) → slice_get (rules_from k ps) q ≡ Some r → Found k ps r
+found [] k q r h = absurd (let e = sym (at_none k q) ∙ h in cc)
+found (p ∷ ps) k q r h = found_by k p ps q r (found ps (k + 1) (q - length (forms_left p)) r) h (slice_get (forms_left p) q) refl
 
-pub found_left : (n k : ℕ) (d w b : List ℕ) (q : ℕ) (r : Rule) → rule_at (rules_from k (pairs_of n d w b)) q ≡ At r → FoundLeft k n d w b r
-found_left zero k d w b q r h = absurd (false≢true (ap is_at (sym (at_none k d w b q) ∙ h)))
-found_left (suc n) k d w b q r h =
-    low_or q (length (forms_left (pair_of d w b)))
-    (λ l. found_first (suc n) k d w b q r (omega arith) h l)
-    (λ l. found_further k n d w b r (found_left n (k + 1) (drop 27 d) (drop (counted true d) w) (drop (counted false d) b) (q - length (forms_left (pair_of d w b))) r (others_at n k d w b q r h l)))
+module _ (q : Rules) (number : ℕ) (r : Rule) (h : found_rule q number ≡ Some r) where
+  one : Found 0 (pairs_in q.pairs) r
+  one = found (pairs_in q.pairs) 0 number r h
 
--- so it has what is asked of it
-module _ (d w b : List ℕ) (q : ℕ) (r : Rule) (h : rule_at (rules (pairs d w b)) q ≡ At r) where
-  found : FoundLeft 0 (row_count d) d w b r
-  found = found_left (row_count d) 0 d w b q r h
+  there : slice_get (pairs_in q.pairs) r.pair ≡ Some one.pair
+  there = let e : r.pair - 0 ≡ r.pair = omega arith in (rw e at one.at)
 
-  same : r.pair - 0 ≡ r.pair
-  same = omega arith
+  same : pair_at r.pair q.pairs ≡ one.pair
+  same = behind_get (row_count q.pairs.directory) r.pair (first_pair q.pairs) one.pair there
 
-  within : r.pair < row_count d
-  within = omega (arith, found.within)
+  pub found_passed : rule_trees q ≡ ok → Passed q.fact_bytes (pair_at r.pair q.pairs)
+  found_passed t = rw same (stage_get (Trees (Some q.fact_bytes)) (pairs_in q.pairs) r.pair one.pair t there)
 
-  pub left-rule : any (map pair_fails (pairs d w b)) ≡ false → Left (pair_at r.pair d w b) r
-  left-rule g = record { low = found.low; left = rw same at found.left; tree = rw same at found.tree; good = good_at (row_count d) r.pair d w b g within }
+  pub found_left : any (map pair_fails (pairs_in q.pairs)) ≡ false → IsLeft (pair_at r.pair q.pairs) r
+  found_left g = rw same (record { left = one.left; tree = one.tree; good = good_get (pairs_in q.pairs) r.pair one.pair g there })
 
-  pub passed_rule : (m : ℕ) → stage_outcome TreesWithFacts m (pairs d w b) ≡ ok → Passed (pair_at r.pair d w b)
-  passed_rule m g = record { bytes = m; trees = stage_at TreesWithFacts m (row_count d) r.pair d w b g within }
+-- a form's tests by those of all five
+any_five : (t : Form → Bool) (f : Form) → any (five t) ≡ false → t f ≡ false
+any_five t form.Expression h = (or_neither (t form.Expression) _ h).0
+any_five t form.Type h = (or_neither (t form.Type) _ (or_neither (t form.Expression) _ h).1).0
+any_five t form.Item h = (or_neither (t form.Item) _ (or_neither (t form.Type) _ (or_neither (t form.Expression) _ h).1).1).0
+any_five t form.Pattern h = (or_neither (t form.Pattern) _ (or_neither (t form.Item) _ (or_neither (t form.Type) _ (or_neither (t form.Expression) _ h).1).1).1).0
+any_five t form.Statement h =
+    (or_neither (t form.Statement) _ (or_neither (t form.Pattern) _ (or_neither (t form.Item) _ (or_neither (t form.Type) _ (or_neither (t form.Expression) _ h).1).1).1).1).0
+
+-- the trees of a rule that is left resolve
+module _ (p : Pair) (r : Rule) (l : IsLeft p r) where
+  rule_good : rule_fails p r.form ≡ false
+  unfolding pair_fails
+  rule_good = let e = any_five (form_fails p) r.form l.good in (rw l.left at e)
+
+  pub pattern_good : tree_fails p side.Pattern r.form ≡ false
+  pattern_good = (or_neither (template_fails p r.form (template_tree p r.form)) (tree_fails p side.Pattern r.form) rule_good).1
+
+  pub template_good : (f : Form) → template_form r.form r.template ≡ Some f → tree_fails p side.Template f ≡ false
+  template_good f h =
+      let g = (or_neither (template_fails p r.form (template_tree p r.form)) (tree_fails p side.Pattern r.form) rule_good).0 in
+      sym (template_in p r.form f r.template h) ∙ rw l.tree g
+
+  pub pattern_resolves : resolving (tree_at p side.Pattern r.form) ≡ Ok (tree_at p side.Pattern r.form)
+  pattern_resolves = rw pattern_good
+
+  pub template_resolves : (f : Form) → template_form r.form r.template ≡ Some f → resolving (tree_at p side.Template f) ≡ Ok (tree_at p side.Template f)
+  template_resolves f h = rw (template_good f h)

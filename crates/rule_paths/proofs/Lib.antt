@@ -1,4 +1,5 @@
--- Laws of the definitions of specs/, for this crate and those above.
+-- Laws of the definitions of specs/, for this crate and those above it.
 pub mod NeedLaws
 pub mod FailLaws
+pub mod PairLaws
 pub mod LeftLaws

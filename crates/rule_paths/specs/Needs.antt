@@ -1,39 +1,46 @@
--- What the functions below the operation ask for: trees that passed their checks, and tables that are large enough.
+-- What is known below the operation: trees that passed their checks, and tables that are large enough for them.
 -- Assumes nothing.
-use Rattle.std.specs.Prelude.{ℕ, ◌*◌, ◌≤◌, ◌≡◌, true, false, List, length}
+use Rattle.std.specs.Prelude.{ℕ, ◌/◌, ◌≤◌, ◌≡◌, true, false, List, map, length, min, Some}
 use Rattle.errors.specs.Refusals.{ok}
-use Rattle.parsing.specs.declared.patterns.Pattern.{Pattern}
-use Rattle.parsing.specs.Answers.{Eight}
-use Rattle.fragments.specs.Pairs.{Pair}
-use Rattle.rules.specs.Stages.{trees_outcome}
+use Rattle.parsing.specs.Reading.{Var}
+use Rattle.fragments.specs.Pairs.{Pair, pair_at, pairs_in}
 use Rattle.rules.specs.declared.numbering.Rule.{Rule}
-use Rattle.rules.specs.Forms.{template_tree, is_left}
-use Rattle.rule_paths.specs.RulePaths.{pattern_of, pair_fails}
+use Rattle.rules.specs.Forms.{template_tree, any, is_left}
+use Rattle.rules.specs.Stages.{trees_outcome}
+use Rattle.checks.specs.declared.Rules.{Rules}
+use Rattle.checks.specs.Given.{rule_trees}
+use Rattle.rule_paths.specs.RulePaths.{pattern_vars, pair_fails}
 
--- the placeholders of a pair's pattern
-pub record Known (p : Pair) (pattern : Pattern) : Type 0 where
-  pub eight : Eight pattern
-  pub is : pattern ≡ pattern_of p
+-- tables of n entries have one for each element, or fact, of any tree in words
+abbrev pub Roomy : ℕ → List ℕ → Type 0
+Roomy n words = min (length words / 3) 16383 ≤ n
 
 -- the trees of a pair with their facts passed, with a fact text of some bytes
-pub record Passed (p : Pair) : Type 0 where
-  pub bytes : ℕ
-  pub trees : trees_outcome true bytes p ≡ ok
+abbrev pub Passed : ℕ → Pair → Type 0
+Passed bytes p = trees_outcome (Some bytes) p ≡ ok
 
--- a table has an entry for each element, or fact, of any tree in words
-abbrev pub Roomy : List ℕ → List ℕ → Type 0
-Roomy words table = (k : ℕ) → k * 3 ≤ length words → k ≤ 16383 → k ≤ length table
+-- such a pair beside the placeholders of its pattern
+pub record IsPassed (n : ℕ) (p : Pair) (vs : List Var) (bytes : ℕ) : Type 0 where
+  pub placeholders : vs ≡ pattern_vars p
+  pub passed : Passed bytes p
+  pub room : Roomy n p.words
 
--- the four tables: the facts' index and its spare, the paths' and the calls'
-pub record AllRoomy (words index spare paths calls : List ℕ) : Type 0 where
-  pub for_index : Roomy words index
-  pub for_spare : Roomy words spare
-  pub for_paths : Roomy words paths
-  pub for_calls : Roomy words calls
+-- a rule with its pair
+pub record PairedRule : Type 0 where
+  pub pair : Pair
+  pub rule : Rule
 
--- a rule is one of the pair's that are left, and every path that must resolve has a fact
-pub record Left (p : Pair) (r : Rule) : Type 0 where
-  pub low : r.form ≤ 4
+abbrev pub paired : Rules → Rule → PairedRule
+paired q r = record { pair = pair_at r.pair q.pairs; rule = r }
+
+-- it is one of the pair's that are left, and every path that must resolve has a fact
+pub record IsLeft (p : Pair) (r : Rule) : Type 0 where
   pub left : is_left p r.form ≡ true
   pub tree : r.template ≡ template_tree p r.form
   pub good : pair_fails p ≡ false
+
+-- rules whose trees passed, and in which every path that must resolve has a fact
+pub record AreResolved (n : ℕ) (q : Rules) : Type 0 where
+  pub passed : rule_trees q ≡ ok
+  pub good : any (map pair_fails (pairs_in q.pairs)) ≡ false
+  pub room : Roomy n q.pairs.words

@@ -1,33 +1,22 @@
 -- The rules left, one pair after the other.
 -- Assumes nothing.
-use mathlib.Core.Path.{◌≡◌, refl, ap, ◌∙◌}
-use mathlib.Core.Bool.{true, false}
-use mathlib.Core.List.{List, [], ◌∷◌, ◌++◌, map}
-use Prim.Native.Nat.{ℕ, zero, suc, ◌+◌, ◌-◌, ◌≤◌, ◌<◌}
-use native.Mathlib.Omega.{arith}
-use lib.ListN.{length, drop, get_or, length-append, length-map}
-use Rattle.fragments.specs.Directory.{counted}
-use Rattle.fragments.specs.Pairs.{Pair, pair_of, pairs_of}
+use Rattle.std.proofs.Common.{◌≡◌, refl, ap, ◌∙◌, List, [], ◌∷◌, ◌++◌, map, ℕ, zero, suc, ◌+◌, ◌-◌, ◌≤◌, ◌<◌, Some, None, slice_get, length, length-append, arith}
+use Rattle.std.proofs.lemmas.List.{length-map}
+use Rattle.std.proofs.lemmas.Option.{slice_get-map}
+use Rattle.fragments.specs.declared.forms.Form.{Form}
+use Rattle.fragments.specs.Pairs.{Pair}
 use Rattle.rules.specs.Forms.{forms_left}
 use Rattle.rules.specs.Numbering.{rule_of, rules_from, rule_at}
 use Rattle.rules.specs.declared.numbering.Rule.{Rule}
-use Rattle.rules.specs.declared.numbering.Found.TheVariants.{NoSuchRule, At}
 
 -- no pairs have no rules; else the first pair's, and the others'
-pub rules_end : (k : ℕ) (d w b : List ℕ) → rules_from k (pairs_of 0 d w b) ≡ []
-unfolding rules_from pairs_of
-rules_end k d w b = refl
+rules_none : (k : ℕ) → rules_from k [] ≡ []
+unfolding rules_from
+rules_none k = refl
 
-abbrev pub others_of : ℕ → List ℕ → List ℕ → List ℕ → List Pair
-others_of n d w b = pairs_of (n - 1) (drop 27 d) (drop (counted true d) w) (drop (counted false d) b)
-
-rules_suc : (k n : ℕ) (d w b : List ℕ) → rules_from k (pairs_of (suc n) d w b) ≡ map (rule_of k (pair_of d w b)) (forms_left (pair_of d w b)) ++ rules_from (k + 1) (pairs_of n (drop 27 d) (drop (counted true d) w) (drop (counted false d) b))
-unfolding rules_from pairs_of
-rules_suc k n d w b = refl
-
-rules-next : (k n : ℕ) (d w b : List ℕ) → 0 < n → rules_from k (pairs_of n d w b) ≡ map (rule_of k (pair_of d w b)) (forms_left (pair_of d w b)) ++ rules_from (k + 1) (others_of n d w b)
-rules-next k zero d w b h = absurd (omega arith)
-rules-next k (suc n) d w b h = let e : suc n - 1 ≡ n = omega arith in rules_suc k n d w b ∙ rw e
+rules_cons : (k : ℕ) (p : Pair) (ps : List Pair) → rules_from k (p ∷ ps) ≡ map (rule_of k p) (forms_left p) ++ rules_from (k + 1) ps
+unfolding rules_from
+rules_cons k p ps = refl
 
 -- how many there are does not depend on the first pair's number
 count-any : (k j : ℕ) (ps : List Pair) → length (rules_from k ps) ≡ length (rules_from j ps)
@@ -36,49 +25,50 @@ count-any k j [] = refl
 count-any k j (p ∷ ps) =
     rw (length-append (map (rule_of k p) (forms_left p)) (rules_from (k + 1) ps), length-append (map (rule_of j p) (forms_left p)) (rules_from (j + 1) ps), length-map (forms_left p) (rule_of k p), length-map (forms_left p) (rule_of j p), count-any (k + 1) (j + 1) ps)
 
-pub count_next : (n : ℕ) (d w b : List ℕ) → 0 < n → length (rules_from 0 (pairs_of n d w b)) ≡ length (forms_left (pair_of d w b)) + length (rules_from 0 (others_of n d w b))
-count_next n d w b h =
-    let p = pair_of d w b in
-    ap length (rules-next 0 n d w b h)
-    ∙ rw (length-append (map (rule_of 0 p) (forms_left p)) (rules_from (0 + 1) (others_of n d w b)), length-map (forms_left p) (rule_of 0 p), count-any (0 + 1) 0 (others_of n d w b))
+pub count_none : (k : ℕ) → length (rules_from k []) ≡ 0
+count_none k = rw (rules_none k)
 
--- the rule of a number
-at-behind : (xs ys : List Rule) (q : ℕ) → length xs ≤ q → rule_at (xs ++ ys) q ≡ rule_at ys (q - length xs)
-unfolding rule_at
-at-behind [] ys q h = let e : q ≡ q - 0 = omega arith in ap (rule_at ys) e
-at-behind (x ∷ xs) ys zero h = absurd (omega arith)
-at-behind (x ∷ xs) ys (suc q) h =
+pub count_next : (k : ℕ) (p : Pair) (ps : List Pair) → length (rules_from k (p ∷ ps)) ≡ length (forms_left p) + length (rules_from k ps)
+count_next k p ps =
+    ap length (rules_cons k p ps)
+    ∙ rw (length-append (map (rule_of k p) (forms_left p)) (rules_from (k + 1) ps), length-map (forms_left p) (rule_of k p), count-any (k + 1) k ps)
+
+-- an element of two lists in turn
+get_left : {X : Type 0} (xs ys : List X) (q : ℕ) (x : X) → slice_get xs q ≡ Some x → slice_get (xs ++ ys) q ≡ Some x
+get_left [] ys q x h = absurd cc
+get_left (y ∷ xs) ys zero x h = h
+get_left (y ∷ xs) ys (suc q) x h = get_left xs ys q x h
+
+get_right : {X : Type 0} (xs ys : List X) (q : ℕ) → slice_get xs q ≡ None → slice_get (xs ++ ys) q ≡ slice_get ys (q - length xs)
+get_right [] ys q h = let e : q ≡ q - 0 = omega arith in ap (slice_get ys) e
+get_right (y ∷ xs) ys zero h = absurd cc
+get_right (y ∷ xs) ys (suc q) h =
     let e : q - length xs ≡ suc q - suc (length xs) = omega arith in
-    at-behind xs ys q (omega arith) ∙ ap (rule_at ys) e
+    get_right xs ys q h ∙ ap (slice_get ys) e
 
-at_mapped : (f : ℕ → Rule) (xs : List ℕ) (ys : List Rule) (q : ℕ) → q < length xs → rule_at (map f xs ++ ys) q ≡ At (f (get_or xs q 0))
-unfolding rule_at
-at_mapped f [] ys q h = absurd (omega arith)
-at_mapped f (x ∷ xs) ys zero h = refl
-at_mapped f (x ∷ xs) ys (suc q) h = at_mapped f xs ys q (omega arith)
+get_past : {X : Type 0} (xs : List X) (q : ℕ) → slice_get xs q ≡ None → length xs ≤ q
+get_past [] q h = omega arith
+get_past (y ∷ xs) zero h = absurd cc
+get_past (y ∷ xs) (suc q) h = omega (arith, get_past xs q h)
 
-pub at_first : (k n : ℕ) (d w b : List ℕ) (q : ℕ) → 0 < n → q < length (forms_left (pair_of d w b))
-    → rule_at (rules_from k (pairs_of n d w b)) q ≡ At (rule_of k (pair_of d w b) (get_or (forms_left (pair_of d w b)) q 0))
-at_first k n d w b q h l =
-    ap (λ (rs : List Rule). rule_at rs q) (rules-next k n d w b h)
-    ∙ at_mapped (rule_of k (pair_of d w b)) (forms_left (pair_of d w b)) (rules_from (k + 1) (others_of n d w b)) q l
+-- the rule of a number: the first pair's, or one of the others
+pub at_here : (k : ℕ) (p : Pair) (ps : List Pair) (q : ℕ) (f : Form) → slice_get (forms_left p) q ≡ Some f → slice_get (rules_from k (p ∷ ps)) q ≡ Some (rule_of k p f)
+at_here k p ps q f h =
+    ap (λ (rs : List Rule). slice_get rs q) (rules_cons k p ps)
+    ∙ get_left (map (rule_of k p) (forms_left p)) (rules_from (k + 1) ps) q (rule_of k p f) (slice_get-map (rule_of k p) (forms_left p) q ∙ rw h)
 
-pub at-later : (k n : ℕ) (d w b : List ℕ) (q : ℕ) → 0 < n → length (forms_left (pair_of d w b)) ≤ q
-    → rule_at (rules_from k (pairs_of n d w b)) q ≡ rule_at (rules_from (k + 1) (others_of n d w b)) (q - length (forms_left (pair_of d w b)))
-at-later k n d w b q h l =
-    let p = pair_of d w b in
-    let m = length-map (forms_left p) (rule_of k p) in
-    ap (λ (rs : List Rule). rule_at rs q) (rules-next k n d w b h)
-    ∙ at-behind (map (rule_of k p) (forms_left p)) (rules_from (k + 1) (others_of n d w b)) q (omega (arith, m, l))
-    ∙ rw m
+pub at_behind : (k : ℕ) (p : Pair) (ps : List Pair) (q : ℕ) → slice_get (forms_left p) q ≡ None → slice_get (rules_from k (p ∷ ps)) q ≡ slice_get (rules_from (k + 1) ps) (q - length (forms_left p))
+at_behind k p ps q h =
+    ap (λ (rs : List Rule). slice_get rs q) (rules_cons k p ps)
+    ∙ get_right (map (rule_of k p) (forms_left p)) (rules_from (k + 1) ps) q (slice_get-map (rule_of k p) (forms_left p) q ∙ rw h)
+    ∙ rw (length-map (forms_left p) (rule_of k p))
 
-pub at_none : (k : ℕ) (d w b : List ℕ) (q : ℕ) → rule_at (rules_from k (pairs_of 0 d w b)) q ≡ NoSuchRule
-unfolding rule_at
-at_none k d w b q = rw (rules_end k d w b)
+pub none_passed : (p : Pair) (q : ℕ) → slice_get (forms_left p) q ≡ None → length (forms_left p) ≤ q
+none_passed p q h = get_past (forms_left p) q h
+
+pub at_none : (k : ℕ) (q : ℕ) → slice_get (rules_from k []) q ≡ None
+at_none k q = rw (rules_none k)
 
 -- a number below how many there are is that of a rule
-pub rule_there : (l : List Rule) (number : ℕ) → number < length l → rule_at l number ≡ NoSuchRule → ⊥
-unfolding rule_at
-rule_there [] number h e = omega arith
-rule_there (r ∷ l) zero h e = let z : ◌≡◌ {A = ℕ} 0 1 = cc in omega arith
-rule_there (r ∷ l) (suc number) h e = rule_there l number (omega arith) e
+pub rule_there : (l : List Rule) (number : ℕ) → number < length l → rule_at l number ≡ None → ⊥
+rule_there l number h e = omega (arith, get_past l number e)

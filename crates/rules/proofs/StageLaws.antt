@@ -1,47 +1,40 @@
--- The lowest of five outcomes, and of the pairs' in turn.
+-- The lowest of several outcomes, and the stages in turn.
 -- Assumes nothing.
-use mathlib.Core.Path.{◌≡◌, refl, sym, ap, ◌∙◌}
-use mathlib.Core.Bool.{Bool, true, false}
-use mathlib.Core.List.{List, [], ◌∷◌}
-use Prim.Native.Nat.{ℕ, zero, suc, ◌-◌, ◌<◌}
-use native.Mathlib.Omega.{arith}
-use lib.ListN.{length, drop}
+use Rattle.std.proofs.Common.{◌≡◌, refl, sym, ◌∙◌, true, false, List, [], ◌∷◌, map, ℕ, Option, Ok, Err, arith}
+use Rattle.std.specs.List.{fold}
 use borrow.Author.Tests.{le-leb}
-use Rattle.errors.specs.Refusals.{Outcome, ok, err}
 use Rattle.errors.specs.declared.Refusal.{Refusal}
-use Rattle.errors.specs.Refusals.{number_of, lowest_of, lowest, first_of, in_turn}
-use Rattle.errors.proofs.Laws.{lowest-accepted, lowest_of_three, both_pass, turn_passes, turn_refuses, turn_both, turn_last}
-use Rattle.fragments.specs.Directory.{counted, is_directory}
 use Rattle.errors.specs.declared.Refusal.TheVariants.{MalformedList, NoForm}
-use Rattle.parsing.specs.Reading.{Element, read, refused, reading}
-use Rattle.trees.specs.Given.{has_right_text}
-use Rattle.fragments.specs.Pairs.{Pair, pair_of, pairs_of, pairs, list_of, text_of, code_of, is_given, five}
+use Rattle.errors.specs.Refusals.{Outcome, ok, err, number_of, lowest_of, lowest, first_of, in_turn}
+use Rattle.errors.proofs.Laws.{lowest-accepted, lowest_of_three, both_pass, turn_passes, turn_both, turn_last}
+use Rattle.fragments.specs.declared.forms.Side.{Side}
+use Rattle.fragments.specs.Directory.{is_directory}
+use Rattle.fragments.specs.Pairs.{Pair, Pairs, pairs_in, code_of}
+use Rattle.trees.specs.Given.{right_text}
 use Rattle.rules.specs.Forms.{has_rule}
-use Rattle.rules.specs.Stages.{form_outcome, side_outcome, forms_outcome, pair_stage, stage_outcome, directory_outcome, rules_outcome}
+use Rattle.rules.specs.Stages.{given_list, side_outcome, forms_outcome, pair_stage, stage_outcome, directory_outcome, rules_outcome}
 use Rattle.rules.specs.declared.stages.Stage.{Stage}
-use Rattle.rules.specs.declared.stages.Stage.TheVariants.{Lists, Forms}
+use Rattle.rules.specs.declared.stages.Stage.TheVariants.{Lists, Trees, Forms}
 
-pub lowest-five : (a b c d e : Outcome) → lowest_of a (lowest_of b (lowest_of c (lowest_of d e))) ≡ lowest (a ∷ b ∷ c ∷ d ∷ e ∷ [])
+-- the lowest by going along
+fold_from : {A : Type 0} (f : A → Outcome) (a : Outcome) (xs : List A) → fold (λ b x. lowest_of b (f x)) a xs ≡ lowest_of a (lowest (map f xs))
 unfolding lowest
-lowest-five a b c d e = rw (lowest-accepted e)
+fold_from f a [] = sym (lowest-accepted a)
+fold_from f a (x ∷ xs) = fold_from f (lowest_of a (f x)) xs ∙ lowest_of_three a (f x) (lowest (map f xs))
+
+pub fold_lowest : {A : Type 0} (f : A → Outcome) (xs : List A) → fold (λ b x. lowest_of b (f x)) ok xs ≡ lowest (map f xs)
+fold_lowest f xs = fold_from f ok xs
 
 lowest_twice : (r : Refusal) → lowest_of (err r) (err r) ≡ err r
 lowest_twice r = rw (le-leb (number_of r) (number_of r) (omega arith))
 
-pub lowest-same : (r : Refusal) → lowest (err r ∷ err r ∷ err r ∷ err r ∷ err r ∷ []) ≡ err r
-lowest-same r = sym (lowest-five (err r) (err r) (err r) (err r) (err r)) ∙ rw (lowest_twice r, lowest_twice r, lowest_twice r, lowest_twice r)
+lowest_same : (r : Refusal) → lowest (err r ∷ err r ∷ err r ∷ err r ∷ err r ∷ []) ≡ err r
+unfolding lowest
+lowest_same r = rw (lowest_twice r, lowest_twice r, lowest_twice r, lowest_twice r)
 
--- a side's trees: its list is read, it is refused, or it is not given
-module _ (looked : Bool) (m : ℕ) (p : Pair) (side : ℕ) where
-  pub side_read : (list text code : List ℕ) (es : List Element) → list ≡ list_of side p → text ≡ text_of side p → code ≡ code_of side p → is_given side p ≡ true → reading list text ≡ read es
-      → side_outcome looked m p side ≡ lowest (five (form_outcome looked m p side (has_right_text text es code) (length code)))
-  side_read list text code es l t k g h = rw (← l, ← t, ← k, g, h)
-
-  pub side-refused : (list text : List ℕ) (r : Refusal) → list ≡ list_of side p → text ≡ text_of side p → is_given side p ≡ true → reading list text ≡ refused r → side_outcome looked m p side ≡ err r
-  side-refused list text r l t g h = rw (← l, ← t, g, h) (lowest-same r)
-
-  pub side_absent : (code : List ℕ) → code ≡ code_of side p → is_given side p ≡ false → side_outcome looked m p side ≡ lowest (five (form_outcome looked m p side false (length code)))
-  side_absent code k g = rw (← k, g)
+-- a side whose list is refused
+pub side_refused : (m : Option ℕ) (p : Pair) (side : Side) (r : Refusal) → right_text (given_list side p) (code_of side p) ≡ Err r → side_outcome m p side ≡ err r
+side_refused m p side r h = rw h (lowest_same r)
 
 -- a pair's forms
 pub has_forms : (p : Pair) → has_rule p ≡ true → forms_outcome p ≡ ok
@@ -52,51 +45,41 @@ pub no_forms : (p : Pair) → has_rule p ≡ false → forms_outcome p ≡ err N
 unfolding first_of
 no_forms p h = rw h
 
--- the first of n pairs and the others
-module _ (stage : Stage) (m : ℕ) where
-  pub stage_end : (d w b : List ℕ) → stage_outcome stage m (pairs_of 0 d w b) ≡ ok
-  unfolding lowest pairs_of
-  stage_end d w b = refl
-
-  stage_suc : (n : ℕ) (d w b : List ℕ)
-      → stage_outcome stage m (pairs_of (suc n) d w b) ≡ lowest_of (pair_stage stage m (pair_of d w b)) (stage_outcome stage m (pairs_of n (drop 27 d) (drop (counted true d) w) (drop (counted false d) b)))
-  unfolding lowest pairs_of
-  stage_suc n d w b = refl
-
-  pub stage-next : (n : ℕ) (d w b : List ℕ) (a : Outcome) → 0 < n
-      → lowest_of a (stage_outcome stage m (pairs_of n d w b))
-      ≡ lowest_of (lowest_of a (pair_stage stage m (pair_of d w b))) (stage_outcome stage m (pairs_of (n - 1) (drop 27 d) (drop (counted true d) w) (drop (counted false d) b)))
-  stage-next zero d w b a h = absurd (omega arith)
-  stage-next (suc n) d w b a h =
-      let e : suc n - 1 ≡ n = omega arith in
-      let p = pair_stage stage m (pair_of d w b) in
-      let q = stage_outcome stage m (pairs_of n (drop 27 d) (drop (counted true d) w) (drop (counted false d) b)) in
-      ap (lowest_of a) (stage_suc n d w b) ∙ sym (lowest_of_three a p q) ∙ rw e
-
 -- where a stage passes, its first pair does and the others do
-pub stage-both : (stage : Stage) (m n : ℕ) (d w b : List ℕ) → 0 < n → stage_outcome stage m (pairs_of n d w b) ≡ ok
-    → (pair_stage stage m (pair_of d w b) ≡ ok) × (stage_outcome stage m (pairs_of (n - 1) (drop 27 d) (drop (counted true d) w) (drop (counted false d) b)) ≡ ok)
-stage-both stage m n d w b h e = both_pass _ _ (sym (stage-next stage m n d w b ok h) ∙ e)
+pub stage_both : (stage : Stage) (p : Pair) (ps : List Pair) → stage_outcome stage (p ∷ ps) ≡ ok → (pair_stage stage p ≡ ok) × (stage_outcome stage ps ≡ ok)
+unfolding lowest stage_outcome
+stage_both stage p ps h = both_pass _ _ h
+
+-- a stage that refuses is the outcome of those in turn
+pub stop : (a : Outcome) (rest : List Outcome) → (a ≡ ok → ⊥) → in_turn (a ∷ rest) ≡ a
+unfolding in_turn
+stop (Ok tt) rest n = absurd (n refl)
+stop (Err r) rest n = refl
 
 -- what rules go through before they are resolved: no directory, a stage that refuses, and the last stage
-module _ (trees : Stage) (m : ℕ) (d w b : List ℕ) where
-  pub no_directory : is_directory d w b ≡ false → rules_outcome trees m d w b ≡ err MalformedList
-  unfolding first_of in_turn
+module _ (m : Option ℕ) (ps : Pairs) where
+  pub no_directory : is_directory ps.directory ps.words ps.bytes ≡ false → rules_outcome m ps ≡ err MalformedList
+  unfolding first_of in_turn rules_outcome
   no_directory h = rw h
 
-  passes_directory : is_directory d w b ≡ true → directory_outcome d w b ≡ ok
-  unfolding first_of
-  passes_directory h = rw h
+  module _ (h : is_directory ps.directory ps.words ps.bytes ≡ true) where
+    passes_directory : directory_outcome ps ≡ ok
+    unfolding first_of
+    passes_directory = rw h
 
-  pub lists_refuse : (r : Refusal) → is_directory d w b ≡ true → stage_outcome Lists m (pairs d w b) ≡ err r → rules_outcome trees m d w b ≡ err r
-  lists_refuse r h l = turn_passes _ _ (passes_directory h) ∙ turn_refuses _ _ r l
+    pub lists_decide : (stage_outcome Lists (pairs_in ps) ≡ ok → ⊥) → rules_outcome m ps ≡ stage_outcome Lists (pairs_in ps)
+    unfolding rules_outcome
+    lists_decide n = turn_passes _ _ passes_directory ∙ stop (stage_outcome Lists (pairs_in ps)) _ n
 
-  pub trees_refuse : (r : Refusal) → is_directory d w b ≡ true → stage_outcome Lists m (pairs d w b) ≡ ok → stage_outcome trees m (pairs d w b) ≡ err r → rules_outcome trees m d w b ≡ err r
-  trees_refuse r h l t = turn_passes _ _ (passes_directory h) ∙ turn_passes _ _ l ∙ turn_refuses _ _ r t
+    pub trees_decide : stage_outcome Lists (pairs_in ps) ≡ ok → (stage_outcome (Trees m) (pairs_in ps) ≡ ok → ⊥) → rules_outcome m ps ≡ stage_outcome (Trees m) (pairs_in ps)
+    unfolding rules_outcome
+    trees_decide l n = turn_passes _ _ passes_directory ∙ turn_passes _ _ l ∙ stop (stage_outcome (Trees m) (pairs_in ps)) _ n
 
-  pub forms_decide : is_directory d w b ≡ true → stage_outcome Lists m (pairs d w b) ≡ ok → stage_outcome trees m (pairs d w b) ≡ ok → rules_outcome trees m d w b ≡ stage_outcome Forms m (pairs d w b)
-  forms_decide h l t = turn_passes _ _ (passes_directory h) ∙ turn_passes _ _ l ∙ turn_passes _ _ t ∙ turn_last (stage_outcome Forms m (pairs d w b))
+    pub forms_decide : stage_outcome Lists (pairs_in ps) ≡ ok → stage_outcome (Trees m) (pairs_in ps) ≡ ok → rules_outcome m ps ≡ stage_outcome Forms (pairs_in ps)
+    unfolding rules_outcome
+    forms_decide l t = turn_passes _ _ passes_directory ∙ turn_passes _ _ l ∙ turn_passes _ _ t ∙ turn_last (stage_outcome Forms (pairs_in ps))
 
   -- where all pass, the trees do
-  pub trees_pass : rules_outcome trees m d w b ≡ ok → stage_outcome trees m (pairs d w b) ≡ ok
+  pub trees_pass : rules_outcome m ps ≡ ok → stage_outcome (Trees m) (pairs_in ps) ≡ ok
+  unfolding rules_outcome
   trees_pass h = (turn_both _ _ (turn_both _ _ (turn_both _ _ h).1).1).0

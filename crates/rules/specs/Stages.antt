@@ -2,71 +2,79 @@
 -- first wherever rules are given, and 17 stands after 18 to 21 and before 22. Where several lists, rules or trees refuse, the lowest of
 -- their numbers is given."
 -- Assumes nothing.
-use Rattle.std.specs.Prelude.{ℕ, Bool, true, false, cond, not, List, [], ◌∷◌, map, eqb}
+use Rattle.std.specs.Prelude.{ℕ, Bool, cond, not, List, [], ◌∷◌, map, Option, Some, None, unwrap_or}
 use Rattle.errors.specs.Refusals.{Outcome}
 use Rattle.errors.specs.declared.Refusal.TheVariants.{MalformedList, NoForm}
 use Rattle.errors.specs.Refusals.{lowest_of, lowest, first_of, in_turn}
 use Rattle.validating.specs.Pairs.{pair_outcome}
 use Rattle.facts.specs.declared.Owner.{Owner}
-use Rattle.facts.specs.declared.Owner.TheVariants.{Pattern, Template}
+use Rattle.facts.specs.declared.Owner.TheVariants as owner
 use Rattle.trees.specs.Given.{rule_outcome, given_outcome}
+use Rattle.fragments.specs.declared.forms.Side.{Side}
+use Rattle.fragments.specs.declared.forms.Side.TheVariants.{Pattern, Template}
+use Rattle.fragments.specs.declared.forms.Form.{Form}
+use Rattle.fragments.specs.Forms.{five}
 use Rattle.fragments.specs.Directory.{is_directory}
-use Rattle.fragments.specs.Pairs.{Pair, pairs, list_of, text_of, code_of, is_given, tree_of, facts_of, five}
+use Rattle.fragments.specs.Pairs.{Pair, Pairs, pairs_in, list_of, text_of, code_of, is_given, tree_of, facts_of}
 use Rattle.rules.specs.Forms.{has_rule}
 use Rattle.rules.specs.declared.stages.Stage.{Stage}
-use Rattle.rules.specs.declared.stages.Stage.TheVariants.{Lists, Trees, TreesWithFacts, Forms}
+use Rattle.rules.specs.declared.stages.Stage.TheVariants.{Lists, Trees, Forms}
 
 -- 1, docs/FORMAT.md, "Rules": a directory that is none
-abbrev pub directory_outcome : List ℕ → List ℕ → List ℕ → Outcome
-directory_outcome directory words bytes = first_of (record { fails = not (is_directory directory words bytes); refusal = MalformedList } ∷ [])
+abbrev pub directory_outcome : Pairs → Outcome
+directory_outcome ps = first_of (record { fails = not (is_directory ps.directory ps.words ps.bytes); refusal = MalformedList } ∷ [])
+
+-- a side's list, its words and its text, where it is given
+abbrev pub given_list : Side → Pair → Option (List ℕ × List ℕ)
+given_list side p = cond (is_given side p) (Some (list_of side p, text_of side p)) None
 
 -- 1 to 15 of a pair's lists
 abbrev pub lists_outcome : Pair → Outcome
-lists_outcome p = pair_outcome (list_of 0 p) (text_of 0 p) (is_given 1 p) (list_of 1 p) (text_of 1 p)
+lists_outcome p = pair_outcome (list_of Pattern p) (text_of Pattern p) (given_list Template p)
 
--- a side's trees are the pattern's where it is 0
-abbrev pub owner_of : ℕ → Owner
-owner_of side = cond (eqb side 0) Pattern Template
+-- whose a side's trees are
+abbrev pub owner_of : Side → Owner
+owner_of Pattern = owner.Pattern
+owner_of Template = owner.Template
 
--- 18 to 20 of a form's tree on one side, or 18 to 21 where facts are looked at, with a fact text of m bytes: else it is as if none were
--- handed in
-abbrev pub facts_if : Bool → Pair → ℕ → ℕ → List ℕ
-facts_if looked p side form = cond looked (facts_of side form p) []
+-- 18 to 20 of a form's tree on one side, or 18 to 21 where its facts are looked at, with a fact text of some bytes: else it is as if none
+-- were handed in
+abbrev pub facts_if : Option ℕ → List ℕ → List ℕ
+facts_if (Some m) facts = facts
+facts_if None facts = []
 
-abbrev pub tree_outcome : Bool → ℕ → Pair → ℕ → ℕ → Outcome
-tree_outcome looked m p side form =
-    given_outcome (is_given side p) (list_of side p) (text_of side p) (owner_of side) (tree_of side form p) (code_of side p) (facts_if looked p side form) m
+abbrev pub tree_outcome : Option ℕ → Pair → Side → Form → Outcome
+tree_outcome m p side form = given_outcome (given_list side p) (owner_of side) (tree_of side form p) (code_of side p) (facts_if m (facts_of side form p)) (unwrap_or m 0)
 
 -- the same where it is known whether the side's code, of n bytes, is the right text
-abbrev pub form_outcome : Bool → ℕ → Pair → ℕ → Bool → ℕ → ℕ → Outcome
-form_outcome looked m p side has_right_text n form = rule_outcome (owner_of side) has_right_text (tree_of side form p) n (facts_if looked p side form) m
+abbrev pub form_outcome : Option ℕ → Pair → Side → Bool → ℕ → Form → Outcome
+form_outcome m p side has_right_text n form = rule_outcome (owner_of side) has_right_text (tree_of side form p) n (facts_if m (facts_of side form p)) (unwrap_or m 0)
 
-abbrev pub side_outcome : Bool → ℕ → Pair → ℕ → Outcome
-side_outcome looked m p side = lowest (five (tree_outcome looked m p side))
+abbrev pub side_outcome : Option ℕ → Pair → Side → Outcome
+side_outcome m p side = lowest (five (tree_outcome m p side))
 
-abbrev pub trees_outcome : Bool → ℕ → Pair → Outcome
-trees_outcome looked m p = lowest_of (side_outcome looked m p 0) (side_outcome looked m p 1)
+abbrev pub trees_outcome : Option ℕ → Pair → Outcome
+trees_outcome m p = lowest_of (side_outcome m p Pattern) (side_outcome m p Template)
 
 -- 17 "no form has both its trees"
 abbrev pub forms_outcome : Pair → Outcome
 forms_outcome p = first_of (record { fails = not (has_rule p); refusal = NoForm } ∷ [])
 
 -- a stage of one pair, and of all
-abbrev pub pair_stage : Stage → ℕ → Pair → Outcome
-pair_stage Lists m p = lists_outcome p
-pair_stage Trees m p = trees_outcome false m p
-pair_stage TreesWithFacts m p = trees_outcome true m p
-pair_stage Forms m p = forms_outcome p
+abbrev pub pair_stage : Stage → Pair → Outcome
+pair_stage Lists p = lists_outcome p
+pair_stage (Trees m) p = trees_outcome m p
+pair_stage Forms p = forms_outcome p
 
-abbrev pub stage_outcome : Stage → ℕ → List Pair → Outcome
-stage_outcome stage m ps = lowest (map (pair_stage stage m) ps)
+unfoldable pub stage_outcome : Stage → List Pair → Outcome
+stage_outcome stage ps = lowest (map (pair_stage stage) ps)
 
--- all that rules go through before they are resolved
-abbrev pub rules_outcome : Stage → ℕ → List ℕ → List ℕ → List ℕ → Outcome
-rules_outcome trees m directory words bytes =
+-- all that rules go through before they are resolved; facts are looked at, with a fact text of some bytes, or not
+unfoldable pub rules_outcome : Option ℕ → Pairs → Outcome
+rules_outcome m ps =
     in_turn
-    (directory_outcome directory words bytes
-    ∷ stage_outcome Lists m (pairs directory words bytes)
-    ∷ stage_outcome trees m (pairs directory words bytes)
-    ∷ stage_outcome Forms m (pairs directory words bytes)
+    (directory_outcome ps
+    ∷ stage_outcome Lists (pairs_in ps)
+    ∷ stage_outcome (Trees m) (pairs_in ps)
+    ∷ stage_outcome Forms (pairs_in ps)
     ∷ [])

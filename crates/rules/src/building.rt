@@ -2,28 +2,25 @@
 ghost use Rattle.std.specs.Prelude.{◌≡◌};
 ghost use Rattle.rules.specs.Building.{built_rules};
 
-use crate::numbering::Found;
-use crate::stages::Stage;
+use crate::numbering::Rule;
 use crate::{numbering, stages};
 use errors::Refusal;
+use fragments::pairs::Pairs;
 
-// The refusal, or how many rules are left and the one that was asked for.
-#[derive(Clone, Copy)]
-pub enum Built {
-    Refused(Refusal),
-    Rules(usize, Found),
+// How many rules are left, and the one that was asked for.
+#[derive(Clone, Copy, Debug, PartialEq, Eq)]
+pub struct Built {
+    pub count: usize,
+    pub rule: Option<Rule>,
 }
 
 // Building rules, with the number of a rule that is asked for. Facts are not looked at.
-pub fn build_rules(directory: &[u32], words: &[u32], bytes: &[u8], number: usize) -> Built
-    ensures { result ≡ built_rules directory.now words.now bytes.now number }
+pub fn build_rules(pairs: &Pairs, number: usize) -> Result<Built, Refusal>
+    ensures { result ≡ built_rules pairs.now number }
 {
-    match stages::check_rules(Stage::Trees, directory, words, bytes, 0) {
-        Ok(()) => {
-            let count = numbering::count_rules(directory, words, bytes);
-            let found = numbering::rule_at(directory, words, bytes, number);
-            Built::Rules(count, found)
-        }
-        Err(r) => Built::Refused(r),
-    }
+    stages::check_rules(pairs, None)?;
+    Ok(Built {
+        count: numbering::count_rules(pairs),
+        rule: numbering::rule_at(pairs, number),
+    })
 }

@@ -1,13 +1,17 @@
-// The forms of a pair: 0 expression, 1 type, 2 item, 3 pattern, 4 statement. A pair is handed on as its row and its words.
-ghost use Rattle.std.specs.Prelude.{◌≡◌, cond, ◌≤◌, ◌<◌, length, get_or};
-ghost use Rattle.fragments.specs.Pairs.{in_words, is_present, five};
-ghost use Rattle.rules.specs.Forms.{template_tree, is_there, is_rule, is_path_rule, any, is_left, kept};
+// The forms of a pair that are rules, and those left.
+ghost use Rattle.std.specs.Prelude.{◌≡◌, ◌≤◌, length, slice_get};
+ghost use Rattle.std.specs.Iterator.{YieldsFirst, item_count};
+ghost use Rattle.fragments.specs.Forms.{five};
+ghost use Rattle.rules.specs.Forms.{template_tree, is_there, is_rule, any, is_path_rule, is_left, forms_left};
 
-use fragments::pairs;
-use syntax::accessors;
+use fragments::forms::{Form, Side};
+use fragments::pairs::Pair;
+use std::marker::Model;
+use syntax::kinds::{ElementKind, PATH};
+use syntax::parts::Part;
 
 // The template's tree of a rule.
-#[derive(Clone, Copy)]
+#[derive(Clone, Copy, Debug, PartialEq, Eq)]
 pub enum TemplateTree {
     // No template was given.
     Absent,
@@ -19,151 +23,148 @@ pub enum TemplateTree {
     Missing,
 }
 
-// Whether a form's tree of a side is there.
-fn is_present(row: &[u32], words: &[u32], side: usize, form: usize) -> bool
-    requires { (side ≤ 1) × (form ≤ 4) }
-    ensures { result ≡ is_present side form (in_words row.now words.now) }
-{
-    pairs::tree(row, words, side, form).len() != 0
+impl TemplateTree {
+    // Whether it is there, or none is wanted.
+    fn is_there(self) -> bool
+        ensures { result ≡ is_there self }
+    {
+        self != TemplateTree::Missing
+    }
 }
 
 // The template's tree of a form.
-pub fn template_tree(row: &[u32], words: &[u32], form: usize) -> TemplateTree
-    requires { form ≤ 4 }
-    ensures { result ≡ template_tree (in_words row.now words.now) form }
+pub fn template_tree(pair: &Pair, form: Form) -> TemplateTree
+    ensures { result ≡ template_tree pair.now form }
 {
-    if pairs::is_given(row, 1) {
-        if is_present(row, words, 1, form) {
-            return TemplateTree::Own;
-        }
-        if (form == 0) & is_present(row, words, 1, 4) {
-            return TemplateTree::StandIn;
-        }
-        return TemplateTree::Missing;
+    if !pair.is_given(Side::Template) {
+        return TemplateTree::Absent;
     }
-    TemplateTree::Absent
-}
-
-// Whether a template's tree is there, or none is wanted.
-fn is_there(template: TemplateTree) -> bool
-    ensures { result ≡ is_there template }
-{
-    match template {
-        TemplateTree::Absent => true,
-        TemplateTree::Own => true,
-        TemplateTree::StandIn => true,
-        TemplateTree::Missing => false,
+    if pair.is_present(Side::Template, form) {
+        return TemplateTree::Own;
     }
+    if form == Form::Expression && pair.is_present(Side::Template, Form::Statement) {
+        return TemplateTree::StandIn;
+    }
+    TemplateTree::Missing
 }
 
 // Whether a form is a rule.
-fn is_rule(row: &[u32], words: &[u32], form: usize) -> bool
-    requires { form ≤ 4 }
-    ensures { result ≡ is_rule (in_words row.now words.now) form }
+fn is_rule(pair: &Pair, form: Form) -> bool
+    ensures { result ≡ is_rule pair.now form }
 {
-    is_present(row, words, 0, form) & is_there(template_tree(row, words, form))
+    pair.is_present(Side::Pattern, form) && template_tree(pair, form).is_there()
 }
 
 // Whether it is one with a PATH in its pattern.
-fn is_path_rule(row: &[u32], words: &[u32], form: usize) -> bool
-    requires { form ≤ 4 }
-    ensures { result ≡ is_path_rule (in_words row.now words.now) form }
+fn is_path_rule(pair: &Pair, form: Form) -> bool
+    ensures { result ≡ is_path_rule pair.now form }
 {
-    if is_rule(row, words, form) {
-        return accessors::contains(pairs::tree(row, words, 0, form), true, 2);
-    }
-    false
+    is_rule(pair, form)
+        && Part::new(pair.tree(Side::Pattern, form)).contains(ElementKind::Node, PATH)
+}
+
+// Whether one of several holds.
+pub fn any(flags: &[bool]) -> bool
+    ensures { result ≡ any flags.now }
+{
+    flags.iter().any(|holds| *holds)
 }
 
 // The forms that are rules.
-pub fn rule_forms(row: &[u32], words: &[u32]) -> [bool; 5]
-    ensures { result ≡ five (is_rule (in_words row.now words.now)) }
+pub fn rule_forms(pair: &Pair) -> [bool; 5]
+    ensures { result ≡ five (is_rule pair.now) }
 {
-    let expression = is_rule(row, words, 0);
-    let ty = is_rule(row, words, 1);
-    let item = is_rule(row, words, 2);
-    let pattern = is_rule(row, words, 3);
-    let statement = is_rule(row, words, 4);
-    [expression, ty, item, pattern, statement]
+    Form::ALL.map(|form| is_rule(pair, form))
 }
 
 // Those with a PATH in their pattern.
-fn path_forms(row: &[u32], words: &[u32]) -> [bool; 5]
-    ensures { result ≡ five (is_path_rule (in_words row.now words.now)) }
+fn path_forms(pair: &Pair) -> [bool; 5]
+    ensures { result ≡ five (is_path_rule pair.now) }
 {
-    let expression = is_path_rule(row, words, 0);
-    let ty = is_path_rule(row, words, 1);
-    let item = is_path_rule(row, words, 2);
-    let pattern = is_path_rule(row, words, 3);
-    let statement = is_path_rule(row, words, 4);
-    [expression, ty, item, pattern, statement]
+    Form::ALL.map(|form| is_path_rule(pair, form))
 }
 
-// Whether there is one among forms.
-pub fn any(forms: [bool; 5]) -> bool
-    requires { length forms ≡ 5 }
-    ensures { result ≡ any forms }
-{
-    let mut i: usize = 0;
-    while i < 5 {
-        if forms[i] {
-            return true;
-        }
-        i += 1;
+// Some of the forms, one by one: those to come of which a test holds.
+#[derive(Drop)]
+pub struct FormsLeft {
+    is_left: [bool; 5],
+    to_come: &'static [Form],
+}
+
+impl Model for FormsLeft {
+    ghost use Rattle.std.specs.Prelude.{List};
+    ghost use Rattle.fragments.specs.declared.forms.Form.{Form};
+    ghost use Rattle.rules.specs.Forms.{passing, flag};
+
+    ghost Value = { List Form };
+
+    ghost view = { λ s. passing (flag s.is_left) s.to_come.now };
+}
+
+impl FormsLeft {
+    // How many there are.
+    pub fn len(&self) -> usize
+        ensures { result ≡ length self.now }
+    {
+        let is_left = self.is_left;
+        self.to_come
+            .iter()
+            .filter(|form| is_left[**form as usize])
+            .count()
     }
-    false
+
+    // The one of a number.
+    pub fn get(&self, number: usize) -> Option<Form>
+        ensures { result ≡ slice_get self.now number }
+    {
+        let is_left = self.is_left;
+        self.to_come
+            .iter()
+            .filter(|form| is_left[**form as usize])
+            .nth(number)
+            .copied()
+    }
+}
+
+impl Iterator for FormsLeft {
+    type Item = Form;
+
+    ghost next_gives = { YieldsFirst (λ left. left) };
+
+    ghost remaining = { item_count (λ left. left) };
+
+    #[tactic(auto, unfolding(crate::specs::Forms::passing))]
+    fn next(&mut self) -> Option<Form> {
+        while let Some((form, others)) = self.to_come.split_first() {
+            self.to_come = others;
+            if self.is_left[*form as usize] {
+                return Some(*form);
+            }
+        }
+        None
+    }
+}
+
+// The flags of the forms left.
+#[tactic(auto, using(crate::proofs::FormLaws::left_paths, crate::proofs::FormLaws::left_rules))]
+fn left_flags(pair: &Pair) -> [bool; 5]
+    ensures { result ≡ five (is_left pair.now) }
+{
+    let paths = path_forms(pair);
+    if any(&paths) {
+        return paths;
+    }
+    rule_forms(pair)
 }
 
 // The forms left.
-pub fn left_forms(row: &[u32], words: &[u32]) -> [bool; 5]
-    ensures { result ≡ five (is_left (in_words row.now words.now)) }
+#[tactic(auto, using(crate::proofs::FormLaws::few_passing))]
+pub fn left_forms(pair: &Pair) -> FormsLeft
+    ensures forms { result ≡ forms_left pair.now }
+    ensures few { length result ≤ 5 }
 {
-    let paths = path_forms(row, words);
-    if any(paths) {
-        return paths;
+    FormsLeft {
+        is_left: left_flags(pair),
+        to_come: &Form::ALL,
     }
-    rule_forms(row, words)
-}
-
-// One for a form that is there.
-fn one_if(form: bool) -> usize
-    ensures { result ≡ cond form 1 0 }
-{
-    if form {
-        return 1;
-    }
-    0
-}
-
-// How many forms there are.
-pub fn count(forms: [bool; 5]) -> usize
-    requires { length forms ≡ 5 }
-    ensures { (result ≡ length (kept 0 forms)) × (result ≤ 5) }
-{
-    let mut n: usize = 0;
-    let mut i: usize = 0;
-    while i < 5 {
-        n += one_if(forms[i]);
-        i += 1;
-    }
-    n
-}
-
-// The form of a number among them.
-pub fn nth(forms: [bool; 5], number: usize) -> usize
-    requires forms_len { length forms ≡ 5 }
-    requires number_in_bounds { number < length (kept 0 forms) }
-    ensures { (result ≡ get_or (kept 0 forms) number 0) × (result ≤ 4) }
-{
-    let mut seen: usize = 0;
-    let mut i: usize = 0;
-    while i < 4 {
-        let form = forms[i];
-        if form & (seen == number) {
-            return i;
-        }
-        seen += one_if(form);
-        i += 1;
-    }
-    4
 }

@@ -1,22 +1,23 @@
--- Laws of laying bytes one behind the other.
+-- Laws of laying bytes one behind the other, and of stripping a text of them.
 -- Assumes nothing.
-use mathlib.Core.Path.{◌≡◌, refl, sym, ap, ◌∙◌}
-use mathlib.Core.Bool.{Bool, true, false, cond}
-use mathlib.Core.List.{List, [], ◌∷◌, ◌++◌, append_assoc}
-use Prim.Native.Nat.{ℕ, suc, ◌+◌, ◌-◌, ◌<◌, ◌≤◌}
-use native.Mathlib.Numerals.{add-one}
-use native.Mathlib.Omega.{arith}
+use Rattle.std.proofs.Common.{◌≡◌, refl, sym, ap, ◌∙◌, ℕ, suc, ◌+◌, ◌<◌, ◌≤◌, arith, true, false, List, [], ◌∷◌, ◌++◌, length, take, drop, get_or, append_assoc, length-append, add-one, drop-cons, Option, Some, None, Bor}
+use Rattle.std.specs.Prelude.{MatchOption, option_map}
+use lib.ListN.{drop_of_length-le}
 use lib.Dec.{leb}
-use lib.ListN.{length, take, drop, get_or, length-append, drop_of_length-le}
-use lib.Seq.{drop-cons}
+use mathlib.Core.Bool.{cond}
+use Rattle.std.specs.Option.{ok_or}
+use Rattle.std.proofs.Common.{Ok, Err}
 use borrow.Author.Tests.{le-leb, lt-leb}
-use Rattle.words.specs.Texts.{part}
+use Rattle.errors.specs.declared.Refusal.TheVariants.{DoesNotFit}
+use Rattle.rust_code.specs.RawCode.{written_length}
+use Rattle.words.specs.Texts.{part, has_prefix}
 use Rattle.words.specs.Buffer.{place_after, laid_if_room, laid}
-use Rattle.std.proofs.Common.{Option, Some, None}
-use Rattle.words.proofs.BufferLaws.{placed_at, placed_full, length-laid, laid-laid}
+use Rattle.words.proofs.BufferLaws.{placed_at, placed_full, length-laid, take-laid, laid-laid}
+use Rattle.words.proofs.TextLaws.{same-append}
 use Rattle.parsing.specs.declared.patterns.Placeholder.{Placeholder}
-use Rattle.parsing.specs.Answers.{no_placeholder}
-use Rattle.rust_code.specs.Segments.{segment, segments, Lays}
+use Rattle.parsing.specs.Reading.{Var}
+use Rattle.parsing.specs.Patterns.{var_of, vars_at}
+use Rattle.rust_code.specs.Segments.{segment, segments, Lays, Strips}
 
 module _ (d : List ℕ) (at : ℕ) (bs : List ℕ) where
   -- what `put` gives
@@ -33,46 +34,67 @@ module _ (d : List ℕ) (at : ℕ) (bs : List ℕ) where
       let l : length e ≡ length d = ap length h.2 ∙ length-laid d at bs (omega (arith, h.0, h.1)) in
       omega (arith, h.0, k, length-append bs ys)
 
-  -- no room for them, so none for more
-  pub lays_stop : (e ys : List ℕ) → Lays d at bs None e → length d < at + length (bs ++ ys)
-  lays_stop e ys h = omega (arith, h, length-append bs ys)
+-- what `strip_prefix` gives, and more bytes behind
+module _ (code bs : List ℕ) where
+  pub strips : (r : Option (Bor (List ℕ))) → MatchOption r (has_prefix bs code ≡ false) (λ x. (has_prefix bs code ≡ true) × (x.now ≡ drop (length bs) code) × (length x.now + length bs ≡ length code)) → Strips code bs (option_map (λ x. x.now) r)
+  strips (Some x) h = λ ys. same-append bs ys code ∙ rw (h.0, h.1)
+  strips None h = λ ys. same-append bs ys code ∙ rw h
 
-module _ (text : List ℕ) (end from : ℕ) (ps : List Placeholder) (i : ℕ) where
-  pub segments-step : i < length ps → segments text end from (drop i ps) ≡ segment text from (get_or ps i no_placeholder) ++ segments text end (get_or ps i no_placeholder).whole.end (drop (i + 1) ps)
+  pub strips_then : (rest ys : List ℕ) (r : Option (List ℕ)) → Strips code bs (Some rest) → Strips rest ys r → Strips code (bs ++ ys) r
+  strips_then rest ys (Some q) h k = λ zs. rw (append_assoc bs ys zs) (h (ys ++ zs) ∙ k zs)
+  strips_then rest ys None h k = λ zs. rw (append_assoc bs ys zs) (h (ys ++ zs) ∙ k zs)
+
+  pub strips_stop : (ys : List ℕ) → Strips code bs None → Strips code (bs ++ ys) None
+  strips_stop ys h = λ zs. rw (append_assoc bs ys zs) (h (ys ++ zs))
+
+-- ---- the placeholders from a place on
+
+pub vars_step : (ps : List Placeholder) (i : ℕ) (p : Placeholder) → i < length ps → p ≡ get_or ps i p → vars_at (drop i ps) ≡ var_of p ∷ vars_at (drop (i + 1) ps)
+vars_step ps i p h e = rw (add-one, drop-cons ps i p) (ap (λ q. var_of q ∷ vars_at (drop (suc i) ps)) (sym e))
+
+pub vars_end : (ps : List Placeholder) (i : ℕ) → length ps ≤ i → vars_at (drop i ps) ≡ []
+vars_end ps i h = rw (drop_of_length-le ps h)
+
+module _ (text : List ℕ) (end from : ℕ) where
+  pub segments_step : (v : Var) (vs : List Var) → segments text end from (v ∷ vs) ≡ segment text from v ++ segments text end v.end vs
   unfolding segments
-  segments-step h = rw (add-one, drop-cons ps i no_placeholder)
+  segments_step v vs = refl
 
-  pub segments_end : length ps ≤ i → segments text end from (drop i ps) ≡ part text from end
+  pub segments_end : segments text end from [] ≡ part text from end
   unfolding segments
-  segments_end h = rw (drop_of_length-le ps h)
+  segments_end = refl
 
--- the bytes laid before the i-th place, and what is left
-pub record SoFar (d text : List ℕ) (end : ℕ) (ps : List Placeholder) (e : List ℕ) (at from i : ℕ) : Type 0 where
+-- the bytes laid before some placeholders, and what is left
+pub record SoFar (d text : List ℕ) (end : ℕ) (all : List Var) (e : List ℕ) (at from : ℕ) (left : List Var) : Type 0 where
   pub bytes : List ℕ
   pub lays : Lays d 0 bytes (Some at) e
-  pub whole : segments text end 0 ps ≡ bytes ++ segments text end from (drop i ps)
+  pub whole : segments text end 0 all ≡ bytes ++ segments text end from left
 
-module _ (d text : List ℕ) (end : ℕ) (ps : List Placeholder) where
-  pub so_far_none : SoFar d text end ps d 0 0 0
+module _ (d text : List ℕ) (end : ℕ) (all : List Var) where
+  pub so_far_none : SoFar d text end all d 0 0 all
   so_far_none = record { bytes = []; lays = (refl, omega arith, refl); whole = refl }
 
-  module _ (e : List ℕ) (at from i : ℕ) (s : SoFar d text end ps e at from i) where
-    next : i < length ps → segments text end 0 ps ≡ (s.bytes ++ segment text from (get_or ps i no_placeholder)) ++ segments text end (get_or ps i no_placeholder).whole.end (drop (i + 1) ps)
-    next h = s.whole ∙ rw (segments-step text end from ps i h) (sym (append_assoc s.bytes (segment text from (get_or ps i no_placeholder)) (segments text end (get_or ps i no_placeholder).whole.end (drop (i + 1) ps))))
+  module _ (e : List ℕ) (at from : ℕ) (ls left : List Var) (v : Var) (s : SoFar d text end all e at from ls) (next : ls ≡ v ∷ left) where
+    rejoined : segments text end 0 all ≡ (s.bytes ++ segment text from v) ++ segments text end v.end left
+    rejoined = s.whole ∙ rw (next, segments_step text end from v left) (sym (append_assoc s.bytes (segment text from v) (segments text end v.end left)))
 
-    pub so_far_more : (p : Placeholder) (n : ℕ) (f : List ℕ) → i < length ps → get_or ps i no_placeholder ≡ p → Lays e at (segment text from p) (Some n) f → SoFar d text end ps f n p.whole.end (i + 1)
-    so_far_more p n f h k l =
-        let x : SoFar d text end ps f n (get_or ps i no_placeholder).whole.end (i + 1) = record {
-          bytes = s.bytes ++ segment text from (get_or ps i no_placeholder);
-          lays = lays_then d 0 s.bytes at e (segment text from (get_or ps i no_placeholder)) (Some n) f s.lays (rw (← k) at l);
-          whole = next h;
-        } in
-        rw k at x
+    pub so_far_more : (n : ℕ) (f : List ℕ) → Lays e at (segment text from v) (Some n) f → SoFar d text end all f n v.end left
+    so_far_more n f l = record { bytes = s.bytes ++ segment text from v; lays = lays_then d 0 s.bytes at e (segment text from v) (Some n) f s.lays l; whole = rejoined }
 
-    pub so_far_full : (p : Placeholder) (f : List ℕ) → i < length ps → get_or ps i no_placeholder ≡ p → Lays e at (segment text from p) None f → length d < 0 + length (segments text end 0 ps)
-    so_far_full p f h k l =
-        let x = lays_then d 0 s.bytes at e (segment text from (get_or ps i no_placeholder)) None f s.lays (rw (← k) at l) in
-        rw (next h) (omega (arith, x, length-append (s.bytes ++ segment text from (get_or ps i no_placeholder)) (segments text end (get_or ps i no_placeholder).whole.end (drop (i + 1) ps))))
+    pub so_far_full : (f : List ℕ) → Lays e at (segment text from v) None f → length d < 0 + length (segments text end 0 all)
+    so_far_full f l =
+        let x = lays_then d 0 s.bytes at e (segment text from v) None f s.lays l in
+        rw rejoined (omega (arith, x, length-append (s.bytes ++ segment text from v) (segments text end v.end left)))
 
-    pub so_far_end : (r : Option ℕ) (f : List ℕ) → length ps ≤ i → Lays e at (part text from end) r f → Lays d 0 (segments text end 0 ps) r f
-    so_far_end r f h l = rw (s.whole, segments_end text end from ps i h) (lays_then d 0 s.bytes at e (part text from end) r f s.lays l)
+  pub so_far_end : (e : List ℕ) (at from : ℕ) (s : SoFar d text end all e at from []) (r : Option ℕ) (f : List ℕ) → Lays e at (part text from end) r f → Lays d 0 (segments text end 0 all) r f
+  so_far_end e at from s r f l = rw (s.whole, segments_end text end from) (lays_then d 0 s.bytes at e (part text from end) r f s.lays l)
+
+-- ---- the code in a buffer that has no other use
+
+pub written : (d code : List ℕ) (o : Option ℕ) (e : List ℕ) → Lays d 0 code o e → (ok_or o DoesNotFit ≡ cond (leb (length code) (length d)) (Ok (length code)) (Err DoesNotFit)) × (take (written_length (ok_or o DoesNotFit)) e ≡ cond (leb (length code) (length d)) code [])
+written d code (Some n) e l =
+    let n' : n ≡ length code = omega (arith, l.0) in
+    let f : leb (length code) (length d) ≡ true = le-leb (length code) (length d) (omega (arith, l.1, n')) in
+    let g : take (0 + length code) (laid d 0 code) ≡ code = take-laid d 0 code (omega (arith, l.1, n')) in
+    rw f (ap Ok n', ap (λ (m : ℕ). take m e) l.0 ∙ ap (take (0 + length code)) l.2 ∙ g)
+written d code None e l = rw (lt-leb (length code) (length d) (omega (arith, l))) (refl, refl)

@@ -1,6 +1,5 @@
 -- Laws of raw code.
 pub mod Laws
-pub mod CodeLaws
-pub mod EatLaws
 pub mod StandInLaws
+pub mod CodeLaws
 pub mod TrimLaws

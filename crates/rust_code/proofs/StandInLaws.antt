@@ -1,31 +1,35 @@
 -- A stand-in name by its prefix and the name behind it.
 -- Assumes nothing.
-use mathlib.Core.Path.{◌≡◌, refl, sym, ap, ◌∙◌}
-use mathlib.Core.Bool.{true, false, cond, ◌&&◌}
-use mathlib.Core.List.{List, [], ◌∷◌, ◌++◌, map}
-use Prim.Native.Nat.{ℕ, suc, ◌+◌, ◌-◌, ◌≤◌}
-use native.Mathlib.Omega.{arith}
-use native.Mathlib.Numerals.{add-one}
-use lib.ListN.{length, drop}
-use Rattle.words.specs.Texts.{part, same_text, has_prefix, stand_in_prefix}
-use Rattle.words.proofs.TextLaws.{part-rest, same-append, prefix_long}
+use Rattle.std.proofs.Common.{◌≡◌, refl, ◌∙◌, ℕ, arith, Bool, true, false, List, [], ◌∷◌, length, drop, None}
+use Rattle.std.specs.List.{prefix_len, position}
+use mathlib.Core.Bool.{not}
+use borrow.Author.Tests.{le-ltb}
+use Rattle.words.specs.Texts.{has_prefix, stand_in_prefix}
+use Rattle.words.proofs.TextLaws.{same-append}
 use Rattle.tokens.specs.Tokens.{token_text}
 use Rattle.parsing.specs.Reading.{Var}
-use Rattle.parsing.specs.Answers.{name_index, place_of}
-use Rattle.rust_code.specs.StandIns.{stand_in_name, stand_in_index}
+use Rattle.parsing.specs.Patterns.{has_name_text, name_position}
+use Rattle.rust_code.specs.StandIns.{has_stand_in, stand_in_position}
 
-module _ (text x : List ℕ) where
-  pub by_name_lem : (vs : List Var) → has_prefix stand_in_prefix x ≡ true → stand_in_index text vs x ≡ name_index text (map place_of vs) (drop 14 x)
-  unfolding stand_in_index name_index
-  by_name_lem [] h = refl
-  by_name_lem (v ∷ vs) h = rw (same-append stand_in_prefix (token_text text v.name) x, h, by_name_lem vs h)
+-- two tests that always agree, and one that never holds
+module _ {X : Type 0} (p : X → Bool) where
+  prefix_same : (q : X → Bool) → ((x : X) → p x ≡ q x) → (xs : List X) → prefix_len (λ x. not (p x)) xs ≡ prefix_len (λ x. not (q x)) xs
+  prefix_same q h [] = refl
+  prefix_same q h (x ∷ xs) = rw (h x, prefix_same q h xs)
 
-  pub by_none : (vs : List Var) → has_prefix stand_in_prefix x ≡ false → stand_in_index text vs x ≡ length vs
-  unfolding stand_in_index
-  by_none [] h = refl
-  by_none (v ∷ vs) h = rw (same-append stand_in_prefix (token_text text v.name) x, h, by_none vs h) (omega arith)
+  pub position_same : (q : X → Bool) → ((x : X) → p x ≡ q x) → (xs : List X) → position p xs ≡ position q xs
+  position_same q h xs = rw (prefix_same q h xs)
 
-pub behind-prefix : (x : List ℕ) → has_prefix stand_in_prefix x ≡ true → part x 14 (length x) ≡ drop 14 x
-behind-prefix x h =
-    let l : 14 ≤ length x = prefix_long stand_in_prefix x h in
-    part-rest x 14 l
+  prefix_all : ((x : X) → p x ≡ false) → (xs : List X) → prefix_len (λ x. not (p x)) xs ≡ length xs
+  prefix_all h [] = refl
+  prefix_all h (x ∷ xs) = rw (h x, prefix_all h xs) (omega arith)
+
+  pub position_none : ((x : X) → p x ≡ false) → (xs : List X) → position p xs ≡ None
+  position_none h xs = rw (prefix_all h xs, le-ltb (length xs) (length xs) (omega arith))
+
+module _ (text : List ℕ) (vs : List Var) (x : List ℕ) where
+  pub by_name : has_prefix stand_in_prefix x ≡ true → stand_in_position text vs x ≡ name_position text vs (drop 14 x)
+  by_name h = position_same (has_stand_in text x) (has_name_text text (drop 14 x)) (λ v. same-append stand_in_prefix (token_text text v.name) x ∙ rw h) vs
+
+  pub by_none : has_prefix stand_in_prefix x ≡ false → stand_in_position text vs x ≡ None
+  by_none h = position_none (has_stand_in text x) (λ v. same-append stand_in_prefix (token_text text v.name) x ∙ rw h) vs

@@ -1,14 +1,12 @@
 -- Writing raw code, document 01: "placeholders as `__placeholder_` and the name: 16 does not fit."
 -- Assumes nothing.
-use Rattle.std.specs.Prelude.{ℕ, Bool, false, cond, List, [], ◌∷◌, ◌++◌, eqb, leb, length}
+use Rattle.std.specs.Prelude.{ℕ, Bool, false, cond, List, [], ◌∷◌, ◌++◌, eqb, leb, length, Result, Ok, Err}
 use Rattle.errors.specs.declared.Refusal.{Refusal}
 use Rattle.errors.specs.declared.Refusal.TheVariants.{DoesNotFit}
 use Rattle.errors.specs.Refusals.{number_of}
 use Rattle.tokens.specs.Tokens.{token_text}
-use Rattle.parsing.specs.Reading.{Element, plain, placeholder, Reading, read, refused}
+use Rattle.parsing.specs.Reading.{Element, plain, placeholder, Reading}
 use Rattle.rust_code.specs.StandIns.{stand_in_name}
-use Rattle.rust_code.specs.declared.Written.{Written}
-use Rattle.rust_code.specs.declared.Written.TheVariants.{Length, Refused}
 
 -- an element of a read list as Rust code
 abbrev pub element_code : List ℕ → Element → List ℕ
@@ -41,20 +39,20 @@ abbrev pub tree_text : List ℕ → List Element → List ℕ
 tree_text text es = raw_code text (trim_end (trim_start es))
 
 -- the answer in a buffer of which n bytes are used, and the bytes written
-abbrev pub code_answer : ℕ → List ℕ → Reading → Written
-code_answer n text (refused r) = Refused r
-code_answer n text (read es) = cond (leb (length (raw_code text es)) n) (Length (length (raw_code text es))) (Refused DoesNotFit)
+abbrev pub code_answer : ℕ → List ℕ → Reading → Result ℕ Refusal
+code_answer n text (Err r) = Err r
+code_answer n text (Ok es) = cond (leb (length (raw_code text es)) n) (Ok (length (raw_code text es))) (Err DoesNotFit)
 
 abbrev pub code_bytes : ℕ → List ℕ → Reading → List ℕ
-code_bytes n text (refused r) = []
-code_bytes n text (read es) = cond (leb (length (raw_code text es)) n) (raw_code text es) []
+code_bytes n text (Err r) = []
+code_bytes n text (Ok es) = cond (leb (length (raw_code text es)) n) (raw_code text es) []
 
 -- 01's number of an answer, 0 where the code was written
-abbrev pub written_number : Written → ℕ
-written_number (Length n) = 0
-written_number (Refused r) = number_of r
+abbrev pub written_number : Result ℕ Refusal → ℕ
+written_number (Ok n) = 0
+written_number (Err r) = number_of r
 
 -- the length of the code, 0 where there is none
-abbrev pub written_length : Written → ℕ
-written_length (Length n) = n
-written_length (Refused r) = 0
+abbrev pub written_length : Result ℕ Refusal → ℕ
+written_length (Ok n) = n
+written_length (Err r) = 0

@@ -1,38 +1,31 @@
--- What the functions that compare a tree's text with its list find.
+-- A list without WHITESPACE tokens at its ends.
 -- Assumes nothing.
-use Rattle.std.specs.Prelude.{ℕ, ◌+◌, ◌-◌, ◌≤◌, ◌<◌, ◌≡◌, false, List, [], ◌∷◌, ◌++◌, length, take, drop}
-use Rattle.words.specs.Fields.{token_kind}
-use Rattle.words.specs.Texts.{same_text}
-use Rattle.tokens.specs.declared.Cursor.{Cursor}
-use Rattle.tokens.specs.Tokens.{Along, total_length}
-use Rattle.rust_code.specs.declared.tree_text.Eaten.{Eaten}
-use Rattle.rust_code.specs.declared.tree_text.Eaten.TheVariants.{At, Differs}
+use Rattle.std.specs.Prelude.{ℕ, ◌≡◌, ◌≢◌, List, [], ◌∷◌, ◌++◌}
+use Rattle.words.specs.declared.texts.Range.{Range}
+use Rattle.tokens.specs.declared.Token.{Token}
 
--- words of WHITESPACE tokens only
-abbrev pub Spaces : List ℕ → Type 0
+-- WHITESPACE tokens only
+abbrev pub Spaces : List Token → Type 0
 Spaces [] = Unit {0}
-Spaces (w ∷ ws) = (token_kind (w ∷ ws) ≡ 2) × Spaces ws
+Spaces (t ∷ ts) = (t.kind ≡ 2) × Spaces ts
 
--- the first token is none
-abbrev pub FirstNotSpace : List ℕ → Type 0
-FirstNotSpace ws = token_kind ws ≡ 2 → ⊥
+-- the last token is none, and ends at a byte
+abbrev pub EndsAt : List Token → ℕ → Type 0
+EndsAt [] end = ⊥
+EndsAt (t ∷ []) end = (t.kind ≢ 2) × (t.range.end ≡ end)
+EndsAt (t ∷ u ∷ ts) end = EndsAt (u ∷ ts) end
 
--- the cursor behind the leading ones
-pub record LeadRead (words : List ℕ) (d : Cursor) : Type 0 where
-  pub along : Along words d
-  pub at : d.at ≡ total_length (take d.index words)
-  pub spaces : Spaces (take d.index words)
-  pub not_space : d.index < length words → FirstNotSpace (drop d.index words)
+-- neither the first nor the last token is one, and the tokens' bytes are a range; no tokens have no bytes
+abbrev pub Between : List Token → Range → Type 0
+Between [] r = r.start ≡ r.end
+Between (t ∷ ts) r = (t.kind ≢ 2) × (t.range.start ≡ r.start) × EndsAt (t ∷ ts) r.end
 
--- the cursor before the trailing ones, not before a number of tokens
-pub record BackRead (words : List ℕ) (i : ℕ) (d : Cursor) : Type 0 where
-  pub inside : i ≤ d.index
-  pub bound : d.index ≤ length words
-  pub at : d.at ≡ total_length (take d.index words)
-  pub spaces : Spaces (drop d.index words)
-  pub not_space : i < d.index → FirstNotSpace (drop (d.index - 1) words)
-
--- bytes found in a text at a place, whatever follows them, or not
-abbrev pub Eats : List ℕ → ℕ → List ℕ → Eaten → Type 0
-Eats code at bs (At n) = (n ≡ at + length bs) × (n ≤ length code) × ((ys : List ℕ) → same_text (bs ++ ys) (drop at code) ≡ same_text ys (drop n code))
-Eats code at bs Differs = (ys : List ℕ) → same_text (bs ++ ys) (drop at code) ≡ false
+-- the range of a list's tokens without those at its ends
+pub record Trimmed (ts : List Token) (r : Range) : Type 0 where
+  pub lead : List Token
+  pub inner : List Token
+  pub trail : List Token
+  pub split : ts ≡ lead ++ inner ++ trail
+  pub lead_spaces : Spaces lead
+  pub trail_spaces : Spaces trail
+  pub between : Between inner r

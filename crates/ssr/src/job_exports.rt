@@ -1,6 +1,7 @@
 // The operations that write an edit list.
 ghost use Rattle.std.specs.Prelude.{◌≡◌, length};
 ghost use Rattle.words.specs.Buffer.{used_of};
+ghost use Rattle.fragments.specs.Pairs.{pairs_of};
 ghost use Rattle.checks.specs.Given.{file_of};
 ghost use Rattle.edits.specs.Answers.{edited_numbers};
 ghost use Rattle.job_checks.specs.Checks.{job_of};
@@ -10,13 +11,15 @@ ghost use Rattle.exports.specs.Matches.{restriction};
 
 use edits::EditedNumbers;
 use exports::ranges;
+use job_checks::{GivenJob, Inputs};
+use trees::GivenFile;
 
 // A job, in a range that is given unless the flag is 0.
-pub fn ssr_job<'a>(
+pub fn ssr_job(
     directory: &[u32],
     words: &[u32],
-    bytes: &'a [u8],
-    fact_text: &'a [u8],
+    bytes: &[u8],
+    fact_text: &[u8],
     tree: &[u32],
     text: &[u8],
     facts: &[u32],
@@ -28,23 +31,32 @@ pub fn ssr_job<'a>(
     range_end: usize,
     out: &mut [u8],
 ) -> EditedNumbers
-    ensures value { result ≡ edited_numbers (job_answer (job_of directory.now words.now bytes.now fact_text.now (file_of tree.now text.now facts.now) parses.now parse_text.now candidates.now (restriction range_given range_start range_end)) (used_of (length out.old))) }
-    ensures out_after { out.new ≡ buffer_after (job_of directory.now words.now bytes.now fact_text.now (file_of tree.now text.now facts.now) parses.now parse_text.now candidates.now (restriction range_given range_start range_end)) out.old }
+    ensures value { result ≡ edited_numbers (job_answer (job_of (pairs_of directory.now words.now bytes.now) fact_text.now (file_of tree.now text.now facts.now) parses.now parse_text.now candidates.now (restriction range_given range_start range_end)) (used_of (length out.old))) }
+    ensures out_after { out.new ≡ buffer_after (job_of (pairs_of directory.now words.now bytes.now) fact_text.now (file_of tree.now text.now facts.now) parses.now parse_text.now candidates.now (restriction range_given range_start range_end)) out.old }
 {
-    let range = ranges::restriction_of(range_given, range_start, range_end);
-    let answer = job::job(
-        directory, words, bytes, fact_text, tree, text, facts, parses, parse_text, candidates,
-        range, out,
-    );
-    edits::numbers_of(answer)
+    let inputs = Inputs {
+        directory,
+        words,
+        bytes,
+        fact_text,
+        file: GivenFile {
+            words: tree,
+            text,
+            facts,
+        },
+        parses,
+        parse_text,
+        range: ranges::restriction_of(range_given, range_start, range_end),
+    };
+    job::job(GivenJob { inputs, candidates }, out).into()
 }
 
 // The walk, in a range that is given unless the flag is 0.
-pub fn ssr_walk<'a>(
+pub fn ssr_walk(
     directory: &[u32],
     words: &[u32],
-    bytes: &'a [u8],
-    fact_text: &'a [u8],
+    bytes: &[u8],
+    fact_text: &[u8],
     tree: &[u32],
     text: &[u8],
     facts: &[u32],
@@ -55,12 +67,22 @@ pub fn ssr_walk<'a>(
     range_end: usize,
     out: &mut [u8],
 ) -> EditedNumbers
-    ensures value { result ≡ edited_numbers (walk_answer (walk_of directory.now words.now bytes.now fact_text.now (file_of tree.now text.now facts.now) parses.now parse_text.now (restriction range_given range_start range_end)) (used_of (length out.old))) }
-    ensures out_after { out.new ≡ walk_buffer (walk_of directory.now words.now bytes.now fact_text.now (file_of tree.now text.now facts.now) parses.now parse_text.now (restriction range_given range_start range_end)) out.old }
+    ensures value { result ≡ edited_numbers (walk_answer (walk_of (pairs_of directory.now words.now bytes.now) fact_text.now (file_of tree.now text.now facts.now) parses.now parse_text.now (restriction range_given range_start range_end)) (used_of (length out.old))) }
+    ensures out_after { out.new ≡ walk_buffer (walk_of (pairs_of directory.now words.now bytes.now) fact_text.now (file_of tree.now text.now facts.now) parses.now parse_text.now (restriction range_given range_start range_end)) out.old }
 {
-    let range = ranges::restriction_of(range_given, range_start, range_end);
-    let answer = walk::walk(
-        directory, words, bytes, fact_text, tree, text, facts, parses, parse_text, range, out,
-    );
-    edits::numbers_of(answer)
+    let inputs = Inputs {
+        directory,
+        words,
+        bytes,
+        fact_text,
+        file: GivenFile {
+            words: tree,
+            text,
+            facts,
+        },
+        parses,
+        parse_text,
+        range: ranges::restriction_of(range_given, range_start, range_end),
+    };
+    walk::walk(inputs, out).into()
 }

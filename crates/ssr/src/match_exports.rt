@@ -6,8 +6,10 @@ ghost use Rattle.match_node.specs.MatchNode.{matched_node, buffer_after};
 ghost use Rattle.exports.specs.Matches.{restriction, node_matched};
 
 use exports::match_answers::MatchedNode;
-use exports::{match_answers, ranges};
+use exports::ranges;
+use match_node::match_node;
 use rule_match::Question;
+use trees::GivenFile;
 
 // Matching one node with one rule, in a range that is given unless the flag is 0.
 pub fn ssr_match_node(
@@ -30,17 +32,19 @@ pub fn ssr_match_node(
 {
     let range = ranges::restriction_of(range_given, range_start, range_end);
     let question = Question { rule, node, range };
-    let bytes_of_facts = fact_text.len();
-    let m = match_node::match_node(
+    let file = GivenFile {
+        words: tree,
+        text,
+        facts,
+    };
+    match_node(
         directory,
         words,
         bytes,
-        bytes_of_facts,
-        tree,
-        text,
-        facts,
+        fact_text.len(),
+        file,
         question,
         out,
-    );
-    match_answers::node_matched(m)
+    )
+    .into()
 }

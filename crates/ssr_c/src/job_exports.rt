@@ -1,6 +1,7 @@
 // The operations that write an edit list.
 ghost use Rattle.std.specs.Prelude.{◌≡◌, length};
 ghost use Rattle.words.specs.Buffer.{used_of};
+ghost use Rattle.fragments.specs.Pairs.{pairs_of};
 ghost use Rattle.checks.specs.Given.{file_of};
 ghost use Rattle.edits.specs.Answers.{edited_numbers};
 ghost use Rattle.job_checks.specs.Checks.{job_of};
@@ -13,11 +14,11 @@ use ssr::job_exports;
 
 // A job, in a range that is given unless the flag is 0.
 #[unsafe(no_mangle)]
-pub extern "C" fn ssr_job<'a>(
+pub extern "C" fn ssr_job(
     directory: &[u32],
     words: &[u32],
-    bytes: &'a [u8],
-    fact_text: &'a [u8],
+    bytes: &[u8],
+    fact_text: &[u8],
     tree: &[u32],
     text: &[u8],
     facts: &[u32],
@@ -29,8 +30,8 @@ pub extern "C" fn ssr_job<'a>(
     range_end: usize,
     out: &mut [u8],
 ) -> EditedNumbers
-    ensures value { result ≡ edited_numbers (job_answer (job_of directory.now words.now bytes.now fact_text.now (file_of tree.now text.now facts.now) parses.now parse_text.now candidates.now (restriction range_given range_start range_end)) (used_of (length out.old))) }
-    ensures out_after { out.new ≡ buffer_after (job_of directory.now words.now bytes.now fact_text.now (file_of tree.now text.now facts.now) parses.now parse_text.now candidates.now (restriction range_given range_start range_end)) out.old }
+    ensures value { result ≡ edited_numbers (job_answer (job_of (pairs_of directory.now words.now bytes.now) fact_text.now (file_of tree.now text.now facts.now) parses.now parse_text.now candidates.now (restriction range_given range_start range_end)) (used_of (length out.old))) }
+    ensures out_after { out.new ≡ buffer_after (job_of (pairs_of directory.now words.now bytes.now) fact_text.now (file_of tree.now text.now facts.now) parses.now parse_text.now candidates.now (restriction range_given range_start range_end)) out.old }
 {
     job_exports::ssr_job(
         directory,
@@ -52,11 +53,11 @@ pub extern "C" fn ssr_job<'a>(
 
 // The walk, in a range that is given unless the flag is 0.
 #[unsafe(no_mangle)]
-pub extern "C" fn ssr_walk<'a>(
+pub extern "C" fn ssr_walk(
     directory: &[u32],
     words: &[u32],
-    bytes: &'a [u8],
-    fact_text: &'a [u8],
+    bytes: &[u8],
+    fact_text: &[u8],
     tree: &[u32],
     text: &[u8],
     facts: &[u32],
@@ -67,8 +68,8 @@ pub extern "C" fn ssr_walk<'a>(
     range_end: usize,
     out: &mut [u8],
 ) -> EditedNumbers
-    ensures value { result ≡ edited_numbers (walk_answer (walk_of directory.now words.now bytes.now fact_text.now (file_of tree.now text.now facts.now) parses.now parse_text.now (restriction range_given range_start range_end)) (used_of (length out.old))) }
-    ensures out_after { out.new ≡ walk_buffer (walk_of directory.now words.now bytes.now fact_text.now (file_of tree.now text.now facts.now) parses.now parse_text.now (restriction range_given range_start range_end)) out.old }
+    ensures value { result ≡ edited_numbers (walk_answer (walk_of (pairs_of directory.now words.now bytes.now) fact_text.now (file_of tree.now text.now facts.now) parses.now parse_text.now (restriction range_given range_start range_end)) (used_of (length out.old))) }
+    ensures out_after { out.new ≡ walk_buffer (walk_of (pairs_of directory.now words.now bytes.now) fact_text.now (file_of tree.now text.now facts.now) parses.now parse_text.now (restriction range_given range_start range_end)) out.old }
 {
     job_exports::ssr_walk(
         directory,

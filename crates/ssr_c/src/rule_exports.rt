@@ -1,5 +1,7 @@
 // The operations on rules.
 ghost use Rattle.std.specs.Prelude.{◌≡◌, length};
+ghost use Rattle.fragments.specs.Pairs.{pairs_of};
+ghost use Rattle.checks.specs.Given.{rules_of};
 ghost use Rattle.resolving.specs.Resolving.{resolved_element};
 ghost use Rattle.rules.specs.Building.{built_rules};
 ghost use Rattle.exports.specs.Rules.{rules_built, element_resolved};
@@ -15,7 +17,7 @@ pub extern "C" fn ssr_build_rules(
     bytes: &[u8],
     rule: usize,
 ) -> BuiltRules
-    ensures { result ≡ rules_built (built_rules directory.now words.now bytes.now rule) }
+    ensures { result ≡ rules_built (built_rules (pairs_of directory.now words.now bytes.now) rule) }
 {
     rule_exports::ssr_build_rules(directory, words, bytes, rule)
 }
@@ -31,7 +33,7 @@ pub extern "C" fn ssr_resolve(
     side: u32,
     element: usize,
 ) -> ResolvedElement
-    ensures { result ≡ element_resolved (resolved_element (length fact_text.now) directory.now words.now bytes.now rule side element) }
+    ensures { result ≡ element_resolved (resolved_element (rules_of directory.now words.now bytes.now (length fact_text.now)) rule side element) }
 {
     rule_exports::ssr_resolve(directory, words, bytes, fact_text, rule, side, element)
 }

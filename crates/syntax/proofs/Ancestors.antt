@@ -4,21 +4,19 @@ use mathlib.Core.Path.{◌≡◌, refl, sym, ap, subst, ◌∙◌}
 use mathlib.Core.Logic.{◌⊎◌, inl, inr, ⊎_elim}
 use mathlib.Core.Bool.{Bool, true, false}
 use mathlib.Core.List.{List, [], ◌∷◌, ◌++◌, append_assoc, append-nil}
-use Prim.Native.Nat.{ℕ, zero, suc, ◌+◌, ◌-◌, ◌*◌, ◌≤◌, ◌<◌}
+use Prim.Native.Nat.{ℕ, ◌+◌, ◌-◌, ◌*◌, ◌≤◌, ◌<◌}
 use native.Mathlib.Omega.{arith}
 use lib.ListN.{length, drop, length-append}
 use lib.Seq.{drop-drop}
-use lib.Dec.{eqb, leb}
-use borrow.Author.Tests.{eq-eqb, ne_eqb, eqb-false, leb-true, leb-false}
+use lib.Dec.{eqb}
+use borrow.Author.Tests.{eq-eqb, ne_eqb, eqb-false}
 use Rattle.words.proofs.TestLaws.{low_or}
-use Rattle.words.specs.Fields.{word_of, is_a_token, size_of}
-use Rattle.syntax.specs.declared.accessors.Standing.{Standing}
+use Rattle.words.specs.Fields.{word_of}
 use Rattle.syntax.specs.Parts.{span}
 use Rattle.syntax.specs.Trees.{Elems, none, token, node, size, Numbered, words, element_word, tree}
-use Rattle.syntax.specs.Accessors.{below, ancestors, last_but_one, depth_of, parent_of, standing}
+use Rattle.syntax.specs.Accessors.{below, ancestors, last_but_one, standing}
 use Rattle.syntax.specs.Checks.{WellFormed}
 use Rattle.syntax.proofs.PartLaws.{span-token, span_node}
-use Rattle.syntax.proofs.Bridge.{length-words, Built}
 use Rattle.syntax.proofs.Exactly.{tree_built}
 use Rattle.syntax.proofs.Places.{Away, away, Good, looks, behind_node, good_rest-token, good_rest_node, good_children, tree_good, tree-size}
 

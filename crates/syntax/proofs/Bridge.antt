@@ -3,19 +3,18 @@
 -- Assumes nothing.
 use mathlib.Core.Path.{◌≡◌, refl, sym, ap, subst, ◌∙◌}
 use mathlib.Core.Bool.{Bool, true, false, cond, ◌&&◌, false≢true}
-use mathlib.Core.List.{List, [], ◌∷◌, ◌++◌, append_assoc, append-nil}
+use mathlib.Core.List.{List, [], ◌∷◌, ◌++◌, append_assoc}
 use Prim.Native.Nat.{ℕ, zero, suc, ◌+◌, ◌-◌, ◌*◌, ◌/◌, ◌%◌, ◌≤◌, ◌<◌}
 use native.Mathlib.Omega.{arith}
-use native.Mathlib.Nat.{div-div-eq-div-mul}
-use lib.ListN.{length, take, drop, length-append, length-take, length-drop, take-append-drop}
+use lib.ListN.{length, drop, length-append, length-take, take-append-drop}
 use lib.Seq.{take-append-le}
 use lib.Dec.{eqb, leb, ltb}
-use borrow.Author.Tests.{eqb-true, leb-true, ltb-true, eq-eqb, le-leb}
+use borrow.Author.Tests.{eqb-true, leb-true, eq-eqb}
 use Rattle.words.proofs.TestLaws.{and_both, and_of}
 use Rattle.words.specs.Fields.{word_of, kind_at, is_a_node, is_a_token, syntax_kind, size_of, start_of, end_of}
 use Rattle.syntax.specs.Parts.{span, child_words, rest_words}
 use Rattle.syntax.specs.Trees.{Elems, none, token, node, size, Numbered, words, element_word, elems, is_token_kind, is_node_kind, tiles, formed}
-use Rattle.syntax.specs.Rows.{in_row, is_ranged, is_token_part, is_node_head, is_node_part, is_element, every}
+use Rattle.syntax.specs.Rows.{in_row, is_ranged, is_node_head, is_element, every}
 use Rattle.syntax.proofs.PartLaws.{span_pos, span-token, span_node, rest_shorter, children_shorter}
 use Rattle.syntax.proofs.TreeLaws.{elems_end, elems-token, elems_node}
 use Rattle.syntax.proofs.RowLaws.{row_end, row_next, every-next, element-token, element_node}

@@ -2,11 +2,11 @@
 -- Assumes nothing.
 use mathlib.Core.Path.{◌≡◌, refl, sym, ap, ◌∙◌}
 use mathlib.Core.Bool.{true, ◌&&◌, false≢true}
-use mathlib.Core.List.{List, [], ◌++◌, append_assoc, append-nil}
+use mathlib.Core.List.{List, ◌++◌, append_assoc, append-nil}
 use Prim.Native.Nat.{ℕ, ◌+◌, ◌*◌, ◌≤◌, ◌<◌}
 use native.Mathlib.Omega.{arith}
 use native.Mathlib.Nat.{add-zero}
-use lib.ListN.{length, take, drop, length-append, length-take, length-drop}
+use lib.ListN.{length, take, drop, length-take, length-drop}
 use lib.Seq.{take_at}
 use lib.Dec.{leb, ltb}
 use borrow.Author.Tests.{eq-eqb}
@@ -59,9 +59,6 @@ module _ (n : ℕ) (c : Elems) (p : List ℕ) (h : Stands n c p) where
   parts_there : p ≡ words (by_itself c) ++ (words (rest c) ++ h.more)
   parts_there = h.are ∙ ap (λ (x : List ℕ). x ++ h.more) (words_itself c) ∙ append_assoc (words (by_itself c)) (words (rest c)) h.more
 
-  fits_there : span p * 3 ≤ length p
-  fits_there = omega (arith, span_there, length-words (by_itself c), ap length parts_there, length-append (words (by_itself c)) (words (rest c) ++ h.more))
-
   itself_there : elems n (take (span p * 3) p) ≡ by_itself c
   itself_there =
       let t : take (span p * 3) p ≡ words (by_itself c) = ap (λ (x : List ℕ). take (span p * 3) x) parts_there ∙ take_at (words (by_itself c)) (words (rest c) ++ h.more) (span p * 3) (omega (arith, span_there, length-words (by_itself c))) in
@@ -77,8 +74,3 @@ module _ (l : List ℕ) (n : ℕ) (w : WellFormed l) where
       let p = drop (n * 3) l in
       low_or n (size (tree l)) (λ near. itself_there n (element_at n (tree l)) p (tree-stands l n w near))
       (λ far. none-at far (take (span p * 3) p) (simp (length-take, length-drop) (omega (arith, tree-size l w))))
-
-  pub no_itself : length (drop (n * 3) l) < span (drop (n * 3) l) * 3 → elems n [] ≡ by_itself (element_at n (tree l))
-  no_itself h =
-      let p = drop (n * 3) l in
-      low_or n (size (tree l)) (λ near. absurd (omega (arith, fits_there n (element_at n (tree l)) p (tree-stands l n w near)))) (λ far. none-at far [] (omega arith))

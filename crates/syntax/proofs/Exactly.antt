@@ -2,26 +2,26 @@
 -- says both: there is a well-formed tree whose words these are, and whatever is one is accepted.
 -- Assumes nothing.
 use mathlib.Core.Path.{◌≡◌, refl, sym, ap, subst, ◌∙◌}
-use mathlib.Core.Bool.{Bool, true, false, ◌&&◌, false≢true}
+use mathlib.Core.Bool.{true, false, ◌&&◌, false≢true}
 use mathlib.Core.List.{List, [], ◌∷◌, ◌++◌, append-nil}
-use Prim.Native.Nat.{ℕ, zero, suc, ◌+◌, ◌-◌, ◌*◌, ◌/◌, ◌%◌, ◌≤◌, ◌<◌}
+use Prim.Native.Nat.{ℕ, ◌+◌, ◌*◌, ◌/◌, ◌≤◌, ◌<◌}
 use native.Mathlib.Omega.{arith}
 use native.Mathlib.Nat.{le_refl}
-use lib.ListN.{length, drop, drop_of_length-le}
-use lib.Dec.{eqb, leb}
+use lib.ListN.{length, drop_of_length-le}
+use lib.Dec.{eqb}
 use borrow.Author.Tests.{eqb-true, eq-eqb, ne_eqb, le-leb}
 use Rattle.words.proofs.TestLaws.{and_both, and_of, both_ways}
-use Rattle.words.specs.Fields.{word_of, kind_at, is_a_node, is_a_token, syntax_kind, size_of, start_of, end_of}
+use Rattle.words.specs.Fields.{kind_at, is_a_node, is_a_token, syntax_kind, size_of, start_of, end_of}
 use Rattle.words.specs.Texts.{same_text}
 use Rattle.words.proofs.TextLaws.{same_equal, equal_same}
 use Rattle.syntax.specs.Parts.{span, child_words, rest_words}
 use Rattle.syntax.specs.Trees.{Elems, none, token, node, size, words, element_word, elems, tree, tiles, formed, covers, is_tree_of}
-use Rattle.syntax.specs.Rows.{in_row, is_element, every, is_root}
+use Rattle.syntax.specs.Rows.{in_row, every, is_root}
 use Rattle.syntax.proofs.PartLaws.{span_node}
 use Rattle.syntax.proofs.TreeLaws.{elems_end, elems_node}
 use Rattle.syntax.proofs.RowLaws.{row_end, row_next, every_end}
 use Rattle.syntax.proofs.Bridge.{length-words, Built, build}
-use Rattle.syntax.proofs.Words.{NodeGood, node_good, node_is, node_size, start_is, end_is, every_of}
+use Rattle.syntax.proofs.Words.{node_good, node_is, node_size, start_is, end_is, every_of}
 
 record RootSays (n : ℕ) (l : List ℕ) : Type 0 where
   is : is_a_node l ≡ true

@@ -11,3 +11,6 @@ pub mod AccessorLaws
 pub mod Unique
 pub mod Ancestors
 pub mod Elements
+pub mod SiblingLaws
+pub mod ViewLaws
+pub mod FormedLaws

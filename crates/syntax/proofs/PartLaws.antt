@@ -1,12 +1,12 @@
 -- Laws of the parts that a part's first element leads to.
 -- Assumes nothing.
-use mathlib.Core.Path.{◌≡◌, refl, sym, ap, ◌∙◌}
+use mathlib.Core.Path.{◌≡◌}
 use mathlib.Core.Bool.{Bool, true, false, cond}
 use mathlib.Core.List.{List}
 use Prim.Native.Nat.{ℕ, ◌+◌, ◌-◌, ◌*◌, ◌≤◌, ◌<◌}
 use native.Mathlib.Omega.{arith}
 use lib.ListN.{length, take, drop, length-take, length-drop}
-use lib.Seq.{drop-drop, take_all}
+use lib.Seq.{take_all}
 use Rattle.words.specs.Fields.{is_a_token, size_of}
 use Rattle.syntax.specs.Parts.{span, child_words, rest_words}
 
@@ -14,16 +14,9 @@ span_from : (b : Bool) (n : ℕ) → 1 ≤ cond b 1 (1 + (n - 1))
 span_from true n = omega arith
 span_from false n = omega arith
 
-span_to : (b : Bool) (n : ℕ) → n ≤ 65535 → cond b 1 (1 + (n - 1)) ≤ 65535
-span_to true n h = omega arith
-span_to false n h = omega arith
-
 -- an element counts itself, and its size has 16 bits
 pub span_pos : (l : List ℕ) → 1 ≤ span l
 span_pos l = span_from (is_a_token l) (size_of l)
-
-pub span_few : (l : List ℕ) → span l ≤ 65535
-span_few l = span_to (is_a_token l) (size_of l) (omega arith)
 
 -- the span of a token, and of another element that has a size
 pub span-token : (l : List ℕ) → is_a_token l ≡ true → span l ≡ 1
@@ -49,16 +42,6 @@ children_shorter l h = simp (length-take, length-drop) (omega arith)
 pub no_children : (l : List ℕ) → is_a_token l ≡ true → length (child_words l) < 3
 no_children l t = simp length-take (omega (arith, span-token l t))
 
--- the rest of a part that begins at some element begins behind the first
-pub rest_further : (l w : List ℕ) (at n : ℕ) → l ≡ drop (at * 3) w → n ≡ span l → rest_words l ≡ drop ((at + n) * 3) w
-rest_further l w at n e h =
-    let q : at * 3 + span l * 3 ≡ (at + n) * 3 = omega arith in
-    ap (λ (x : List ℕ). drop (span l * 3) x) e ∙ drop-drop (span l * 3) (at * 3) w ∙ ap (λ (k : ℕ). drop k w) q
-
 -- a part up to the end is what is left
 pub slice_end : (l : List ℕ) (n : ℕ) → take (length l - n) (drop n l) ≡ drop n l
 slice_end l n = take_all (length l - n) (drop n l) (omega (arith, length-drop n l))
-
--- what follows a token is three words behind
-pub rest-token : (l : List ℕ) → is_a_token l ≡ true → take (length l - 3) (drop 3 l) ≡ rest_words l
-rest-token l t = rw t (slice_end l 3)

@@ -1,16 +1,16 @@
 -- The decoder from the front: what a part's first element makes of its tree.
 -- Assumes nothing.
-use mathlib.Core.Path.{◌≡◌, refl, sym, ap, ◌∙◌}
+use mathlib.Core.Path.{◌≡◌, refl, sym, ◌∙◌}
 use mathlib.Core.Bool.{Bool, true, false, cond}
-use mathlib.Core.List.{List, []}
-use Prim.Native.Nat.{ℕ, zero, suc, ◌+◌, ◌*◌, ◌≤◌, ◌<◌}
+use mathlib.Core.List.{List}
+use Prim.Native.Nat.{ℕ, zero, suc, ◌+◌, ◌≤◌, ◌<◌}
 use native.Mathlib.Omega.{arith}
 use lib.ListN.{length}
 use lib.Dec.{ltb}
 use borrow.Author.Tests.{lt-ltb, le-ltb, ltb-true, ltb-false}
 use Rattle.words.specs.Fields.{is_a_token, syntax_kind, start_of, end_of}
 use Rattle.syntax.specs.Parts.{span, child_words, rest_words}
-use Rattle.syntax.specs.Trees.{Elems, none, token, node, decode, elems}
+use Rattle.syntax.specs.Trees.{none, token, node, decode, elems}
 use Rattle.syntax.proofs.PartLaws.{rest_shorter, children_shorter}
 
 decode_short : (n i : ℕ) (l : List ℕ) → length l < 3 → decode n i l ≡ none

@@ -1,31 +1,30 @@
 -- The decoder gives back the tree whose words it is given, so there is one such tree; and a tree is accepted exactly if there is one.
 -- Assumes nothing.
-use mathlib.Core.Path.{◌≡◌, refl, sym, ap, subst, ◌∙◌}
+use mathlib.Core.Path.{◌≡◌, sym, ap, subst, ◌∙◌}
 use mathlib.Core.Logic.{◌↔◌}
-use mathlib.Core.Bool.{Bool, true, false, ◌&&◌, false≢true}
+use mathlib.Core.Bool.{true, ◌&&◌, false≢true}
 use mathlib.Core.List.{List, [], ◌∷◌, ◌++◌}
-use Prim.Native.Nat.{ℕ, ◌+◌, ◌-◌, ◌*◌, ◌/◌, ◌≤◌, ◌<◌}
+use Prim.Native.Nat.{ℕ, ◌+◌, ◌-◌, ◌*◌, ◌<◌}
 use native.Mathlib.Omega.{arith}
-use lib.ListN.{length, drop, length-append}
+use lib.ListN.{length, drop}
 use lib.Seq.{take_at, drop_at}
-use lib.Dec.{eqb, leb}
-use borrow.Author.Tests.{eqb-true, le-leb, leb-true}
+use borrow.Author.Tests.{le-leb, leb-true}
 use Rattle.errors.specs.Refusals.{ok}
 use Rattle.words.proofs.TestLaws.{and_both}
-use Rattle.words.specs.Fields.{word_of, syntax_kind, start_of, end_of}
+use Rattle.words.specs.Fields.{word_of}
 use Rattle.words.specs.Texts.{same_text}
 use Rattle.words.proofs.TextLaws.{same_equal}
 use Rattle.syntax.specs.Parts.{span, child_words, rest_words}
-use Rattle.syntax.specs.Trees.{Elems, none, token, node, size, words, element_word, elems, tree, tiles, formed, covers, is_tree_of, depth}
+use Rattle.syntax.specs.Trees.{Elems, none, token, node, size, words, element_word, elems, tree, tiles, formed, covers, is_tree_of}
 use Rattle.syntax.specs.Rows.{is_root, every}
-use Rattle.syntax.specs.Checks.{is_too_large, tree_outcome, TreeOf}
+use Rattle.syntax.specs.Checks.{tree_outcome, TreeOf}
 use Rattle.syntax.proofs.PartLaws.{span-token, span_node}
 use Rattle.syntax.proofs.TreeLaws.{elems_end, elems-token, elems_node}
-use Rattle.syntax.proofs.Bridge.{length-words, Built}
+use Rattle.syntax.proofs.Bridge.{length-words}
 use Rattle.syntax.proofs.Words.{token_good, node_good, tiles_order, token_is, token-kind, node_not, node_kind, node_size, start_is, end_is}
 use Rattle.syntax.proofs.Exactly.{complete_of, tree_exactly, tree_built}
 use Rattle.syntax.proofs.Places.{Good, good_rest-token, good_rest_node, good_children}
-use Rattle.syntax.proofs.CheckLaws.{not_large, within_limits, a_tree, Passed, passed}
+use Rattle.syntax.proofs.CheckLaws.{not_large, within_limits, a_tree, passed}
 
 -- the decoder after the encoder
 pub decode-words : (c : Elems) (i : ℕ) → Good i c → elems i (words c) ≡ c

@@ -1,19 +1,19 @@
 -- The other way: the words of a well-formed tree stand in rows.
 -- Assumes nothing.
-use mathlib.Core.Path.{◌≡◌, refl, sym, ap, subst, ◌∙◌}
-use mathlib.Core.Bool.{Bool, true, false, cond, ◌&&◌}
+use mathlib.Core.Path.{◌≡◌, refl, ap, ◌∙◌}
+use mathlib.Core.Bool.{true, false, ◌&&◌}
 use mathlib.Core.List.{List, [], ◌∷◌, ◌++◌, append_assoc}
-use Prim.Native.Nat.{ℕ, zero, suc, ◌+◌, ◌-◌, ◌*◌, ◌/◌, ◌%◌, ◌≤◌, ◌<◌}
+use Prim.Native.Nat.{ℕ, ◌+◌, ◌-◌, ◌*◌, ◌/◌, ◌≤◌, ◌<◌}
 use native.Mathlib.Omega.{arith}
-use lib.ListN.{length, take, drop, length-append}
+use lib.ListN.{length, take, length-append}
 use lib.Seq.{take_at, drop_at}
 use lib.Dec.{eqb, leb, ltb}
 use borrow.Author.Tests.{eqb-true, leb-true, ltb-true, eq-eqb, ne_eqb, le-leb, lt-ltb}
 use Rattle.words.proofs.TestLaws.{and_both, and_of}
-use Rattle.words.specs.Fields.{word_of, kind_at, is_a_node, is_a_token, syntax_kind, size_of, start_of, end_of}
+use Rattle.words.specs.Fields.{word_of, is_a_node, is_a_token, syntax_kind, size_of, start_of, end_of}
 use Rattle.syntax.specs.Parts.{span, child_words, rest_words}
 use Rattle.syntax.specs.Trees.{Elems, none, token, node, size, words, element_word, is_token_kind, is_node_kind, tiles, formed}
-use Rattle.syntax.specs.Rows.{in_row, is_ranged, is_token_part, is_node_head, is_node_part, is_element, every}
+use Rattle.syntax.specs.Rows.{in_row, is_ranged, is_element, every}
 use Rattle.syntax.proofs.PartLaws.{span-token, span_node}
 use Rattle.syntax.proofs.RowLaws.{row_end, row_next, every-next, element-token, element_node}
 use Rattle.syntax.proofs.Bridge.{length-words}

@@ -2,11 +2,13 @@
 -- `self_token` and `text` look at the NAME_REF's first token; `first_token` goes down first children and finds none at a childless node."
 -- An element is the first of a sequence; an accessor that finds nothing gives the empty one.
 -- Assumes nothing.
-use Rattle.std.specs.Prelude.{ℕ, ◌+◌, Bool, true, false, cond, ◌&&◌, ◌||◌, List, [], ◌∷◌, eqb, leb, length}
+use Rattle.std.specs.Prelude.{ℕ, Bool, true, false, cond, ◌&&◌, ◌||◌, List, [], ◌∷◌, eqb, leb, length}
 use Rattle.words.specs.Texts.{part}
 use Rattle.syntax.specs.Trees.{Elems, none, token, node}
 use Rattle.words.specs.declared.texts.Range.{Range}
-use Rattle.syntax.specs.declared.accessors.Standing.{Standing}
+use Rattle.syntax.specs.declared.kinds.ElementKind.{ElementKind}
+use Rattle.syntax.specs.declared.kinds.ElementKind.TheVariants.{Node, Token}
+use Rattle.syntax.specs.declared.trees.Standing.{Standing}
 
 -- the children of the first element, and what follows it
 abbrev pub children : Elems → Elems
@@ -54,13 +56,14 @@ token_in low high (token i k s e r) = between low high k
 token_in low high (node i k s e cs r) = false
 
 -- an element of a kind, a node or a token, is among siblings or below them
-abbrev pub has_kind : Bool → ℕ → Elems → Bool
-has_kind is_a_node kind c = cond is_a_node (node_in kind kind c) (token_in kind kind c)
+abbrev pub has_kind : ElementKind → ℕ → Elems → Bool
+has_kind Node kind c = node_in kind kind c
+has_kind Token kind c = token_in kind kind c
 
-unfoldable pub has_element : Bool → ℕ → Elems → Bool
-has_element is_a_node kind none = false
-has_element is_a_node kind (token i k s e r) = has_kind is_a_node kind (token i k s e r) || has_element is_a_node kind r
-has_element is_a_node kind (node i k s e cs r) = has_kind is_a_node kind (node i k s e cs r) || has_element is_a_node kind cs || has_element is_a_node kind r
+unfoldable pub has_element : ElementKind → ℕ → Elems → Bool
+has_element element kind none = false
+has_element element kind (token i k s e r) = has_kind element kind (token i k s e r) || has_element element kind r
+has_element element kind (node i k s e cs r) = has_kind element kind (node i k s e cs r) || has_element element kind cs || has_element element kind r
 
 -- the first node among siblings whose kind is from one number to another
 unfoldable pub find_node : ℕ → ℕ → Elems → Elems

@@ -1,6 +1,7 @@
 -- "Trees with facts, wherever given", document 01: the checks of one tree, in their order.
 -- Assumes nothing.
 use Rattle.std.specs.Prelude.{ℕ, ◌/◌, ◌≤◌, ◌≡◌, Bool, true, not, ◌||◌, ◌&&◌, List, [], ◌∷◌, ltb, length}
+use Rattle.words.specs.Fields.{end_of}
 use Rattle.errors.specs.Refusals.{Outcome}
 use Rattle.errors.specs.declared.Refusal.TheVariants.{TreeTooLarge, MalformedTree, TreeTooDeep}
 use Rattle.errors.specs.Refusals.{Check, first_of}
@@ -33,7 +34,11 @@ pub record TreeOf (n : ℕ) (l : List ℕ) : Type 0 where
   pub numbered : Numbered 0 of
   pub shallow : depth of ≤ 128
 
--- words that were accepted as a tree over some text
+-- words that are a tree over some text, which ends where the root does
+unfoldable pub is_well_formed : List ℕ → Bool
+is_well_formed l = not (is_too_large (end_of l) l) && is_tree_of tiles (end_of l) l && not (ltb 128 (depth (tree l)))
+
+-- the same: words that were accepted as a tree over some text
 pub record WellFormed (l : List ℕ) : Type 0 where
   pub bytes : ℕ
   pub small : bytes ≤ 65535

@@ -2,7 +2,7 @@
 -- row from its start to its end. No stack of open nodes is in it, so damaged words of any depth are looked at in one pass. That it is
 -- `is_tree_of` is proved.
 -- Assumes nothing.
-use Rattle.std.specs.Prelude.{ℕ, zero, suc, ◌+◌, ◌*◌, Bool, true, false, cond, ◌&&◌, ◌||◌, List, [], eqb, leb, ltb, length, drop}
+use Rattle.std.specs.Prelude.{ℕ, zero, suc, ◌*◌, Bool, true, false, cond, ◌&&◌, List, eqb, leb, ltb, length, drop}
 use Rattle.words.specs.Fields.{kind_at, is_a_node, is_a_token, syntax_kind, size_of, start_of, end_of}
 use Rattle.syntax.specs.Parts.{span, child_words, rest_words}
 use Rattle.syntax.specs.Trees.{is_token_kind, is_node_kind}

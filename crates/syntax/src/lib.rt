@@ -1,5 +1,6 @@
 // Syntax trees: what words are a well-formed tree over a text, in definitions, and the accessors that document 01 fixes.
 #![tactic(auto)]
 
-pub mod parts; // parts.rt: the parts of a list of words: children, what follows, ranges and texts
-pub mod accessors; // accessors.rt: first child of a kind, first token, lone IDENT, ancestors
+pub mod kinds; // kinds.rt: the syntax kinds that document 01 names
+pub mod parts; // parts.rt: siblings in turn, and going along them and down
+pub mod trees; // trees.rt: a well-formed tree, and its elements by number

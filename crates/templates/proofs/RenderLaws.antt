@@ -1,61 +1,50 @@
--- The pieces of siblings, from their first element and from what follows it; and what is laid into a buffer.
+-- The pieces of siblings, from their first element and from what follows it.
 -- Assumes nothing.
 use mathlib.Core.Path.{◌≡◌, refl, sym, ap, ◌∙◌}
 use mathlib.Core.Bool.{Bool, true, false, cond, ◌&&◌, false≢true}
-use mathlib.Core.List.{List, [], ◌∷◌, ◌++◌, map, map-append, append-nil, append_assoc}
-use Prim.Native.Nat.{ℕ, zero, suc, ◌+◌, ◌-◌, ◌*◌, ◌/◌, ◌≤◌, ◌<◌}
-use native.Mathlib.Numerals.{add-one}
+use mathlib.Core.List.{List, [], ◌∷◌, ◌++◌, append_assoc}
+use Prim.Native.Nat.{ℕ, ◌+◌, ◌*◌, ◌≤◌, ◌<◌}
 use native.Mathlib.Omega.{arith}
 use lib.Dec.{eqb, leb}
-use lib.ListN.{length, take, drop, set, length-take, length-drop}
-use lib.Seq.{take-suc-set}
-use borrow.Author.Tests.{eq-eqb, ne_eqb, eqb-true, lt-ltb, le-ltb, le-leb, leb-true}
-use Rattle.words.specs.Fields.{is_a_token, syntax_kind, start_of, end_of}
+use lib.ListN.{length, take, set, length-set}
+use lib.Seq.{length-take-le}
+use borrow.Rule.Slice.PartMut.{put_mid, post_of}
+use Rattle.std.proofs.Math.Seq.{take-append-add}
+use Rattle.std.proofs.lemmas.List.{take-append-le}
+use borrow.Author.Tests.{eq-eqb, ne_eqb, eqb-true, le-leb, leb-true}
+use Rattle.std.specs.Prelude.{Some, None}
+use Rattle.words.specs.Fields.{is_a_token}
 use Rattle.words.specs.Texts.{part}
 use Rattle.words.proofs.TestLaws.{both_ways, and_both, and_of}
-use Rattle.rust_code.specs.StandIns.{stand_in_index}
-use Rattle.syntax.specs.Parts.{span, child_words, rest_words}
-use Rattle.syntax.specs.Trees.{Elems, none, token, node, elems}
-use Rattle.syntax.specs.Accessors.{children, rest, some, between, node_in, find_node}
-use Rattle.syntax.proofs.PartLaws.{span_pos, length_rest}
-use Rattle.syntax.proofs.TreeLaws.{elems_end, elems-token, elems_node}
-use Rattle.syntax.proofs.AccessorLaws.{children_are, rest_are, some_is, node_token, node_in_lem}
-use Rattle.paths.specs.Steps.{flags_at, is_definition}
-use Rattle.paths.proofs.NameLaws.{children_few, children_of}
-use Rattle.templates.specs.Pieces.{Piece, text, path, hole, receiver_below, is_receiver, renders_path, Template, token_piece, everything, first_segment, but_names, render, code_of}
-use Rattle.templates.specs.Rendering.{mode_of, element_pieces, Laid, Lays, Room}
-
--- the number noted is one more than the place of a path's fact
-pub noted-path : (facts : List ℕ) (n : ℕ) → (n ≡ 0 → ⊥) → is_definition (flags_at facts (n - 1)) ≡ renders_path facts n
-noted-path facts zero h = absurd (h refl)
-noted-path facts (suc n) h = let q : suc n - 1 ≡ n = omega arith in rw q
+use Rattle.rust_code.specs.StandIns.{stand_in_position}
+use Rattle.syntax.specs.declared.parts.Part.{Part}
+use Rattle.syntax.specs.Trees.{Elems, none, token, node, size, elems, tree, tiles, formed}
+use Rattle.syntax.specs.Accessors.{children, rest, range_of, some, between, node_in, find_node, by_itself}
+use Rattle.syntax.specs.Siblings.{kind_of}
+use Rattle.syntax.specs.Views.{elems_of, IsWithin}
+use Rattle.syntax.specs.Checks.{is_well_formed}
+use Rattle.syntax.proofs.FormedLaws.{formed_is}
+use Rattle.syntax.proofs.Words.{token_good, node_good, tiles_order}
+use Rattle.syntax.proofs.Exactly.{tree_built}
+use Rattle.syntax.proofs.ViewLaws.{size_is}
+use Rattle.syntax.proofs.TreeLaws.{elems-token, elems_node}
+use Rattle.syntax.proofs.AccessorLaws.{some_is}
+use Rattle.templates.specs.declared.Piece.{Piece}
+use Rattle.templates.specs.declared.Piece.TheVariants.{Text, Path, Hole}
+use Rattle.templates.specs.Pieces.{receiver_below, is_receiver, Template, token_piece, everything, first_segment, but_names, render}
+use Rattle.templates.specs.Rendering.{mode_of, element_pieces, AreLow, Room}
 
 -- ---- a token
 
-module _ (t : Template) (rs : List ℕ) (i k s e slot : ℕ) (found : slot ≡ stand_in_index t.placeholders.text t.placeholders.vars (part t.code s e)) where
-  pub token-hole : k ≡ 1 → slot < length t.placeholders.vars → (b : Bool) → b ≡ is_receiver rs i → hole slot b ≡ token_piece t rs i k s e
-  token-hole h l b r = rw (eq-eqb k 1 h, ← found, lt-ltb slot (length t.placeholders.vars) l, r)
+module _ (t : Template) (rs : List ℕ) (i k s e : ℕ) where
+  pub token_other : (k ≡ 1 → ⊥) → token_piece t rs i k s e ≡ Text s e
+  token_other h = rw (ne_eqb k 1 h)
 
-  pub token-none : k ≡ 1 → length t.placeholders.vars ≤ slot → text s e ≡ token_piece t rs i k s e
-  token-none h l = rw (eq-eqb k 1 h, ← found, le-ltb slot (length t.placeholders.vars) l)
+  pub token_name : k ≡ 1 → stand_in_position t.placeholders.text t.placeholders.vars (part t.code s e) ≡ None → token_piece t rs i k s e ≡ Text s e
+  token_name h n = rw (eq-eqb k 1 h, n)
 
-pub token-other : (t : Template) (rs : List ℕ) (i k s e : ℕ) → (k ≡ 1 → ⊥) → text s e ≡ token_piece t rs i k s e
-token-other t rs i k s e h = rw (ne_eqb k 1 h)
-
--- ---- the children of a node that was found among an element's children
-
-pub children-span : (l : List ℕ) → length (child_words l) ≤ span l * 3 - 3
-children-span l = simp length-take (omega arith)
-
-module _ (i passed : ℕ) (l cs d : List ℕ) (are : cs ≡ child_words l) (behind : d ≡ child_words (drop (passed * 3) cs)) where
-  pub found-children : (low high : ℕ) → ((j : ℕ) → elems (j + passed) (drop (passed * 3) cs) ≡ find_node low high (elems j cs))
-      → elems (i + passed + 2) d ≡ children (find_node low high (elems (i + 1) (child_words l)))
-  found-children low high found =
-      let n : i + passed + 2 ≡ i + 1 + passed + 1 = omega arith in
-      rw (n, ← are) (children_of (i + 1 + passed) (drop (passed * 3) cs) d _ (found (i + 1)) behind)
-
-  pub found_few : length d ≤ length cs - passed * 3 - 3
-  found_few = rw behind (omega (arith, children_few (drop (passed * 3) cs), length-drop (passed * 3) cs))
+  pub token_hole : (slot : ℕ) → k ≡ 1 → stand_in_position t.placeholders.text t.placeholders.vars (part t.code s e) ≡ Some slot → token_piece t rs i k s e ≡ Hole slot (is_receiver rs i)
+  token_hole slot h n = rw (eq-eqb k 1 h, n)
 
 -- ---- the pieces of siblings
 
@@ -66,115 +55,186 @@ between-same a k =
     (λ h. let e = eqb-true k a h in and_of (le-leb a k (omega arith)) (le-leb k a (omega arith)))
 
 -- the first element and what follows it
-render-first : (t : Template) (b : Bool) (rs : List ℕ) (c : Elems) → some c ≡ true
-    → render t (mode_of b) rs c ≡ element_pieces t b rs c ++ render t (mode_of b) rs (rest c)
+pub render_first : (t : Template) (b : Bool) (rs : List ℕ) (c : Elems) → some c ≡ true → render t (mode_of b) rs c ≡ element_pieces t b rs c ++ render t (mode_of b) rs (rest c)
 unfolding render
-render-first t b rs none h = absurd (false≢true h)
-render-first t true rs (token i k s e r) h = refl
-render-first t false rs (token i k s e r) h = refl
-render-first t true rs (node i k s e cs r) h = refl
-render-first t false rs (node i k s e cs r) h = refl
+render_first t b rs none h = absurd (false≢true h)
+render_first t true rs (token i k s e r) h = refl
+render_first t false rs (token i k s e r) h = refl
+render_first t true rs (node i k s e cs r) h = refl
+render_first t false rs (node i k s e cs r) h = refl
+
+pub render_none : (t : Template) (b : Bool) (rs : List ℕ) (c : Elems) → some c ≡ false → render t (mode_of b) rs c ≡ []
+unfolding render
+render_none t true rs none h = refl
+render_none t false rs none h = refl
+render_none t b rs (token i k s e r) h = absurd (cc)
+render_none t b rs (node i k s e cs r) h = absurd (cc)
 
 -- "Emit everything except for the segment's name-ref"
-render-segment : (t : Template) (rs : List ℕ) (c : Elems) → render t first_segment rs c ≡ render t but_names rs (children (find_node 3 3 c))
+render_segment : (t : Template) (rs : List ℕ) (c : Elems) → render t first_segment rs c ≡ render t but_names rs (children (find_node 3 3 c))
 unfolding render find_node
-render-segment t rs none = refl
-render-segment t rs (token i k s e r) = render-segment t rs r
-render-segment t rs (node i k s e cs r) = rw (between-same 3 k) (by (eqb k 3) (render-segment t rs r))
+render_segment t rs none = refl
+render_segment t rs (token i k s e r) = render_segment t rs r
+render_segment t rs (node i k s e cs r) = rw (between-same 3 k) (by (eqb k 3) (render_segment t rs r))
   where
     by : (b : Bool) → render t first_segment rs r ≡ render t but_names rs (children (find_node 3 3 r))
         → cond b (render t but_names rs cs) (render t first_segment rs r) ≡ render t but_names rs (children (cond b (node i k s e cs r) (find_node 3 3 r)))
     by true h = refl
     by false h = h
 
--- ---- laying
-
-lays_none : (at : ℕ) (d : List ℕ) → Lays [] at at d d
-lays_none at d = record { front = sym (append-nil (take at d)) }
-
-lays_one : (p : Piece) (at v : ℕ) (d : List ℕ) → at < length d → v ≡ code_of p → Lays (p ∷ []) at (at + 1) d (set d at v)
-lays_one p at v d h e = record { front = rw (add-one at, ← e) (take-suc-set d at v h) }
-
-lays_then : (ps qs : List Piece) (at m r : ℕ) (d d' d'' : List ℕ) → Lays ps at m d d' → Lays qs m r d' d'' → Lays (ps ++ qs) at r d d''
-lays_then ps qs at m r d d' d'' a b =
-    record { front = b.front ∙ rw (a.front, map-append code_of ps qs) (append_assoc (take at d) (map code_of ps) (map code_of qs)) }
-
 -- ---- an element
 
-module _ (t : Template) (b : Bool) (rs : List ℕ) (i : ℕ) (l : List ℕ) (h : 3 ≤ length l) (at : ℕ) (out : List ℕ) where
-  -- a NAME_REF, where these are left out
-  pub lays_name : (b && node_in 4 4 (elems i l)) ≡ true → Lays (element_pieces t b rs (elems i l)) at at out out
-  lays_name n = by (is_a_token l) refl
-    where
-      both : (b ≡ true) × (node_in 4 4 (elems i l) ≡ true)
-      both = and_both b (node_in 4 4 (elems i l)) n
+module _ (t : Template) (b : Bool) (rs : List ℕ) where
+  module _ (i : ℕ) (l : List ℕ) (h : 3 ≤ length l) where
+    pub token_pieces : is_a_token l ≡ true → element_pieces t b rs (elems i l) ≡ token_piece t rs i (kind_of (elems i l)) (range_of (elems i l)).start (range_of (elems i l)).end ∷ []
+    token_pieces k = rw (elems-token i l h k)
 
-      by : (q : Bool) → is_a_token l ≡ q → Lays (element_pieces t b rs (elems i l)) at at out out
-      by true k = absurd (false≢true (sym (node_token 4 4 i l h k) ∙ both.1))
-      by false k =
-          let e : eqb (syntax_kind l) 4 ≡ true = sym (between-same 4 (syntax_kind l)) ∙ sym (node_in_lem 4 4 i l h k) ∙ both.1 in
-          rw (elems_node i l h k, both.0, e) (lays_none at out)
+    -- another node: as a path, or by its children
+    module _ (k : is_a_token l ≡ false) (n : (b && node_in 4 4 (elems i l)) ≡ false) where
+      named : (c : Elems) (j kind s e : ℕ) (cs r : Elems) → c ≡ node j kind s e cs r → (b && node_in 4 4 c) ≡ false → (b && eqb kind 4) ≡ false
+      named c j kind s e cs r q n = ap (λ (x : Bool). b && x) (sym (between-same 4 kind)) ∙ (rw q at n)
 
-  pub lays_token : is_a_token l ≡ true → at < length out → (v : ℕ) → v ≡ code_of (token_piece t rs i (syntax_kind l) (start_of l) (end_of l))
-      → Lays (element_pieces t b rs (elems i l)) at (at + 1) out (set out at v)
-  lays_token k low v e = rw (elems-token i l h k) (lays_one (token_piece t rs i (syntax_kind l) (start_of l) (end_of l)) at v out low e)
+      pub path_pieces : t.rendered i ≡ true
+          → element_pieces t b rs (elems i l) ≡ Path i ∷ render t but_names (receiver_below (kind_of (elems i l)) (children (elems i l)) rs) (children (find_node 3 3 (children (elems i l))))
+      path_pieces p =
+          let q = elems_node i l h k in
+          let m = named (elems i l) _ _ _ _ _ _ q n in
+          rw (q, m, p, render_segment t _ _)
 
-  -- another node: as a path, or by its children
-  module _ (k : is_a_token l ≡ false) (n : (b && node_in 4 4 (elems i l)) ≡ false) (r : ℕ) (after : List ℕ) where
-    named : (b && eqb (syntax_kind l) 4) ≡ false
-    named = ap (λ (q : Bool). b && q) (sym (between-same 4 (syntax_kind l)) ∙ sym (node_in_lem 4 4 i l h k)) ∙ n
+      pub node_pieces : t.rendered i ≡ false → element_pieces t b rs (elems i l) ≡ render t everything (receiver_below (kind_of (elems i l)) (children (elems i l)) rs) (children (elems i l))
+      node_pieces p =
+          let q = elems_node i l h k in
+          let m = named (elems i l) _ _ _ _ _ _ q n in
+          rw (q, m, p)
 
-    pub lays_path : t.rendered i ≡ true → at < length out → (v : ℕ) → v ≡ code_of (path i)
-        → (d : Elems) → d ≡ children (find_node 3 3 (elems (i + 1) (child_words l)))
-        → Lays (render t but_names (receiver_below (syntax_kind l) (children (elems i l)) rs) d) (at + 1) r (set out at v) after
-        → Lays (element_pieces t b rs (elems i l)) at r out after
-    lays_path p low v e d f w =
-        let cs = elems (i + 1) (child_words l) in
-        let rs' = receiver_below (syntax_kind l) cs rs in
-        let w' : Lays (render t first_segment rs' cs) (at + 1) r (set out at v) after =
-        rw (render-segment t rs' cs, ← f) (rw (children_are i l h) at w) in
-        rw (elems_node i l h k, named, p) (lays_then (path i ∷ []) (render t first_segment rs' cs) at (at + 1) r out (set out at v) after (lays_one (path i) at v out low e) w')
+-- ---- laying
 
-    pub lays_below : t.rendered i ≡ false
-        → Lays (render t everything (receiver_below (syntax_kind l) (children (elems i l)) rs) (elems (i + 1) (child_words l))) at r out after
-        → Lays (element_pieces t b rs (elems i l)) at r out after
-    lays_below p w = rw (elems_node i l h k, named, p) (rw (children_are i l h) at w)
+pub first_laid : (p : Piece) (out : List Piece) → 0 < length out → take 1 (set out 0 p) ≡ p ∷ []
+first_laid p [] h = absurd (omega arith)
+first_laid p (x ∷ out) h = refl
 
--- ---- siblings within the buffer
+-- pieces laid behind others
+pub laid_behind : (a k m : ℕ) (xs ys : List Piece) → a ≤ length xs → m ≤ length ys → take (a + m) (put_mid a k xs ys) ≡ take a xs ++ take m ys
+laid_behind a k m xs ys h l =
+    ap (λ (n : ℕ). take (n + m) (put_mid a k xs ys)) (sym (length-take-le a xs h)) ∙ take-append-add (take a xs) (ys ++ post_of a k xs) m
+    ∙ ap (λ (zs : List Piece). take a xs ++ zs) (take-append-le m ys (post_of a k xs) l)
 
--- the first of them
-pub first-within : {l : List ℕ} {i at : ℕ} {out : List ℕ} → Room l i at out → 3 ≤ length l → (at < length out) × (at ≤ i) × (i < 16383)
-first-within room h = (omega (arith, room.low, room.within h), room.low, omega (arith, room.few h))
+-- behind the piece of a path
+pub laid_path : (p : Piece) (k r : ℕ) (out new ps : List Piece) → 0 < length out → r ≤ length new → take r new ≡ ps → take (1 + r) (put_mid 1 k (set out 0 p) new) ≡ p ∷ ps
+laid_path p k r out new ps h l e =
+    laid_behind 1 k r (set out 0 p) new (omega (arith, length-set out 0 p)) l ∙ rw (first_laid p out h, e)
 
--- its children, or those of a node among them
-pub below-within : (l cs d : List ℕ) (i passed at number place : ℕ) (out out' : List ℕ) → Room l i at out → 3 ≤ length l → cs ≡ child_words l
-    → length d ≤ length cs - passed * 3 → number ≡ i + passed + 1 → place ≤ number → length out' ≡ length out → Room d number place out'
-below-within l cs d i passed at number place out out' room h are few n low same =
-    let m = ap length are in
-    let f = children_few l in
-    record { low = low; few = λ q. omega (arith, q, room.few h); within = λ q. omega (arith, q, room.within h) }
+-- one more of siblings
+pub next_laid : (t : Template) (b : Bool) (rs : List ℕ) (old next : Elems) (ps more whole : List Piece) → some old ≡ true → next ≡ rest old
+    → more ≡ ps ++ element_pieces t b rs old → ps ++ render t (mode_of b) rs old ≡ whole → more ++ render t (mode_of b) rs next ≡ whole
+next_laid t b rs old next ps more whole s n m w =
+    rw (m, n) (append_assoc ps (element_pieces t b rs old) (render t (mode_of b) rs (rest old))) ∙ ap (λ (qs : List Piece). ps ++ qs) (sym (render_first t b rs old s)) ∙ w
 
--- those that follow it
-pub rest-within : (l x : List ℕ) (i m at r : ℕ) (out out' : List ℕ) → Room l i at out → 3 ≤ length l → m ≡ span l → x ≡ rest_words l
-    → Laid (1 + length (child_words l) / 3) at r out out' → Room x (i + m) r out'
-rest-within l x i m at r out out' room h en ex laid =
-    let n : length x ≡ length l - span l * 3 = ap length ex ∙ length_rest l in
-    record {
-      low = omega (arith, span_pos l, children-span l, laid.most, room.low);
-      few = λ q. omega (arith, q, n, room.few h);
-      within = λ q. omega (arith, q, n, room.within h, laid.same);
-    }
+-- ---- sizes and ranges
 
--- ---- siblings in turn
+pub size_whole : (c : Elems) → size c ≡ size (by_itself c) + size (rest c)
+unfolding size
+size_whole none = refl
+size_whole (token i k s e r) = omega arith
+size_whole (node i k s e cs r) = omega arith
 
-module _ (t : Template) (b : Bool) (rs : List ℕ) (i : ℕ) (l : List ℕ) where
-  pub siblings_end : length l < 3 → (at : ℕ) (d : List ℕ) → Lays (render t (mode_of b) rs (elems i l)) at at d d
-  unfolding render
-  siblings_end h at d = rw (elems_end i l h) (lays_none at d)
+pub size_below : (c : Elems) → some c ≡ true → size (children c) + 1 ≤ size (by_itself c)
+unfolding size
+size_below none h = absurd (false≢true h)
+size_below (token i k s e r) h = omega arith
+size_below (node i k s e cs r) h = omega arith
 
-  pub siblings_then : 3 ≤ length l → (n : ℕ) (x : List ℕ) → n ≡ span l → x ≡ rest_words l → (at m r : ℕ) (d d' d'' : List ℕ)
-      → Lays (element_pieces t b rs (elems i l)) at m d d' → Lays (render t (mode_of b) rs (elems (i + n) x)) m r d' d''
-      → Lays (render t (mode_of b) rs (elems i l)) at r d d''
-  siblings_then h n x en ex at m r d d' d'' a w =
-      let e : rest (elems i l) ≡ elems (i + n) x = rest_are i l h ∙ sym (rw (en, ex)) in
-      rw (render-first t b rs (elems i l) (some_is i l ∙ le-leb 3 (length l) h), e) (lays_then _ _ at m r d d' d'' a w)
+pub size_found : (low high : ℕ) (c : Elems) → size (children (find_node low high c)) ≤ size c
+unfolding size find_node
+size_found low high none = omega arith
+size_found low high (token i k s e r) = omega (arith, size_found low high r)
+size_found low high (node i k s e cs r) = by (between low high k) (size_found low high r)
+  where
+    by : (b : Bool) → size (children (find_node low high r)) ≤ size r → size (children (cond b (node i k s e cs r) (find_node low high r))) ≤ size (node i k s e cs r)
+    by true h = omega arith
+    by false h = omega (arith, h)
+
+pub low_children : (c : Elems) → AreLow c → AreLow (children c)
+low_children none h = tt
+low_children (token i k s e r) h = tt
+low_children (node i k s e cs r) h = h.2
+
+pub low_rest : (c : Elems) → AreLow c → AreLow (rest c)
+low_rest none h = tt
+low_rest (token i k s e r) h = h.2
+low_rest (node i k s e cs r) h = h.3
+
+pub low_found : (low high : ℕ) (c : Elems) → AreLow c → AreLow (find_node low high c)
+unfolding find_node
+low_found low high none h = tt
+low_found low high (token i k s e r) h = low_found low high r h.2
+low_found low high (node i k s e cs r) h = by (between low high k) (low_found low high r h.3)
+  where
+    by : (b : Bool) → AreLow (find_node low high r) → AreLow (cond b (node i k s e cs r) (find_node low high r))
+    by true f = h
+    by false f = f
+
+pub low_range : (c : Elems) → AreLow c → ((range_of c).start ≤ 65535) × ((range_of c).end ≤ 65535)
+low_range none h = (omega arith, omega arith)
+low_range (token i k s e r) h = (h.0, h.1)
+low_range (node i k s e cs r) h = (h.0, h.1)
+
+are_low : (c : Elems) (from to : ℕ) → tiles from to c ≡ true → formed tiles c ≡ true → to ≤ 65535 → AreLow c
+are_low none from to a b h = tt
+are_low (token i k s e r) from to a b h =
+    let g = token_good i k s e from to r a b in
+    let o = tiles_order r e to g.inside g.good in
+    (omega (arith, g.full), omega arith, are_low r e to g.inside g.good h)
+are_low (node i k s e cs r) from to a b h =
+    let g = node_good i k s e from to cs r a b in
+    let o = tiles_order r e to g.inside g.good in
+    (omega (arith, g.order), omega arith, are_low cs s e g.below g.children (omega arith), are_low r e to g.inside g.good h)
+
+pub tree_low : (l : List ℕ) → is_well_formed l ≡ true → AreLow (tree l)
+tree_low l h =
+    let w = formed_is l h in
+    let b = tree_built w.bytes l w.small w.few w.is in
+    are_low (tree l) 0 w.bytes b.inside b.good w.small
+
+-- ---- room
+
+-- a part has few elements
+pub few_elements : (part : Part) → part.number * 3 + length part.words.now ≤ 49149 → size (elems_of part) ≤ 16383
+few_elements part h = omega (arith, size_is part.number part.words.now)
+
+-- an element that is there is at least one
+pub there : (c : Part) → 3 ≤ length c.words.now → some (elems_of c) ≡ true
+there c h = some_is c.number c.words.now ∙ le-leb 3 (length c.words.now) h
+
+pub one_there : (c : Part) → 3 ≤ length c.words.now → 1 ≤ size (by_itself (elems_of c))
+one_there c h = omega (arith, size_below (elems_of c) (there c h))
+
+module _ (c : Part) (out : List Piece) (room : Room c (size (by_itself (elems_of c))) out) (h : 3 ≤ length c.words.now) where
+  -- its children
+  pub room_children : (part : Part) → IsWithin part c → elems_of part ≡ children (elems_of c) → Room part (size (elems_of part)) out
+  room_children part w e = record {
+    few = omega (arith, w.1, room.few);
+    low = rw e (low_children (elems_of c) room.low);
+    within = rw e (omega (arith, size_below (elems_of c) (there c h), room.within));
+  }
+
+  -- those of a node among them, behind a piece
+  pub room_found : (part found : Part) (rest : List Piece) → IsWithin part found → IsWithin found c → elems_of part ≡ children (elems_of found) → elems_of found ≡ find_node 3 3 (children (elems_of c))
+      → length out ≤ length rest + 1 → Room part (size (elems_of part)) rest
+  room_found part found rest v w e f l = record {
+    few = omega (arith, v.1, w.1, room.few);
+    low = rw (e, f) (low_children (find_node 3 3 (children (elems_of c))) (low_found 3 3 (children (elems_of c)) (low_children (elems_of c) room.low)));
+    within = rw (e, f) (omega (arith, l, size_found 3 3 (children (elems_of c)), size_below (elems_of c) (there c h), room.within));
+  }
+
+-- the first of siblings, behind pieces of those before it
+pub room_first : (whole first old : Part) (out rest : List Piece) (n : ℕ) → first ≡ old → IsWithin old whole → AreLow (elems_of old) → n + size (elems_of old) ≤ size (elems_of whole)
+    → Room whole (size (elems_of whole)) out → length out ≤ length rest + n → Room first (size (by_itself (elems_of first))) rest
+room_first whole first old out rest n e w low few room l = rw e (record {
+  few = omega (arith, w.1, room.few);
+  low = low;
+  within = omega (arith, few, l, size_whole (elems_of old), room.within);
+})
+
+pub first_there : (first old : Part) → first ≡ old → some (elems_of old) ≡ true → 3 ≤ length first.words.now
+first_there first old e s = rw e (leb-true 3 (length old.words.now) (sym (some_is old.number old.words.now) ∙ s))

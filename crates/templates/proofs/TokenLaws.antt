@@ -1,24 +1,24 @@
 -- Receivers: the tokens of a part by its words in turn, and the lone one among them.
 -- Assumes nothing.
 use mathlib.Core.Path.{◌≡◌, refl, sym, ap, ◌∙◌}
-use mathlib.Core.Bool.{Bool, true, false, cond, ◌&&◌, and-false, false≢true}
+use mathlib.Core.Bool.{Bool, true, false, cond, false≢true}
 use mathlib.Core.List.{List, [], ◌∷◌, ◌++◌, append-nil}
 use Prim.Native.Nat.{ℕ, zero, suc, ◌+◌, ◌-◌, ◌*◌, ◌≤◌, ◌<◌}
-use native.Mathlib.Numerals.{add-one}
 use native.Mathlib.Omega.{arith}
-use lib.Dec.{eqb, ltb}
+use lib.Dec.{ltb}
 use lib.ListN.{length, take, drop}
 use lib.Seq.{drop-drop}
-use borrow.Author.Tests.{eq-eqb, ne_eqb, eqb-true, eqb-false, lt-ltb}
+use borrow.Author.Tests.{eq-eqb, ne_eqb, ltb-true, ltb-false}
+use Rattle.std.specs.Prelude.{Option, Some, None, is_some}
 use Rattle.words.specs.Fields.{is_a_token}
-use Rattle.words.specs.Texts.{same_text}
 use Rattle.words.proofs.TestLaws.{low_or}
 use Rattle.syntax.specs.Parts.{span, child_words, rest_words}
 use Rattle.syntax.specs.Trees.{Elems, none, token, node, elems}
-use Rattle.syntax.specs.Accessors.{children, find_node, by_itself, between}
+use Rattle.syntax.specs.Accessors.{children, find_node, find_expression, by_itself, between}
+use Rattle.syntax.specs.Siblings.{kind_of}
 use Rattle.syntax.proofs.PartLaws.{span_pos, span-token, rest_shorter, children_shorter}
 use Rattle.syntax.proofs.TreeLaws.{elems_end, elems-token, elems_node}
-use Rattle.templates.specs.Pieces.{tokens_of, is_receiver}
+use Rattle.templates.specs.Pieces.{tokens_of, receiver_below}
 use Rattle.templates.specs.Rendering.{only_of}
 
 -- the tokens of words, three to an element, numbered in turn
@@ -95,44 +95,44 @@ tokens_are i l = tokens_of_lem (length l) i l (omega arith)
 -- ---- the lone token
 
 -- the lone one of a list behind one that was met, or none
-abbrev pub only_after : ℕ → List ℕ → ℕ
-only_after zero l = only_of l
-only_after (suc o) [] = suc o
-only_after (suc o) (i ∷ l) = 0
+abbrev pub only_after : Option ℕ → List ℕ → Option ℕ
+only_after None l = only_of l
+only_after (Some o) [] = Some o
+only_after (Some o) (i ∷ l) = None
 
-pub only_start : (i : ℕ) (l : List ℕ) → only_after 0 (tokens_in i l) ≡ only_of (tokens_of (elems i l))
+pub only_start : (i : ℕ) (l : List ℕ) → only_after None (tokens_in i l) ≡ only_of (tokens_of (elems i l))
 only_start i l = rw (tokens_are i l)
 
-pub only_end : (o i : ℕ) (l : List ℕ) → length l < 3 → o ≡ only_after o (tokens_in i l)
-only_end zero i l h = rw (tokens_end i l h)
-only_end (suc o) i l h = rw (tokens_end i l h)
+only_first_of : (i : ℕ) (x : List ℕ) → only_of (i ∷ x) ≡ only_after (Some i) x
+only_first_of i [] = refl
+only_first_of i (j ∷ x) = refl
 
--- one more element: a token behind another, or what the lone one is then
-pub only_second : (o i : ℕ) (l : List ℕ) → 3 ≤ length l → is_a_token l ≡ true → 0 < o → only_after o (tokens_in i l) ≡ 0
-only_second zero i l h t p = absurd (omega arith)
-only_second (suc o) i l h t p = rw (tokens_step i l h, t)
+module _ (o : Option ℕ) (i : ℕ) (l : List ℕ) where
+  pub only_end : ltb (length l) 3 ≡ true → only_after o (tokens_in i l) ≡ o
+  only_end h = rw (tokens_end i l (ltb-true _ _ h)) (by o)
+    where
+      by : (o : Option ℕ) → only_after o [] ≡ o
+      by None = refl
+      by (Some x) = refl
 
-pub only_next : (o i : ℕ) (l : List ℕ) → 3 ≤ length l → (b : Bool) → is_a_token l ≡ b → (b && ltb 0 o) ≡ false
-    → only_after o (tokens_in i l) ≡ only_after (cond b (i + 1) o) (tokens_in (i + 1) (drop 3 l))
-only_next o i l h false t n = rw (tokens_step i l h, t)
-only_next (suc o) i l h true t n = absurd (false≢true (sym n ∙ lt-ltb 0 (suc o) (omega arith)))
-only_next zero i l h true t n =
-    let s : i + 1 ≡ suc i = omega arith in
-    rw (tokens_step i l h, t, s) (by (tokens_in (suc i) (drop 3 l)))
-  where
-    by : (x : List ℕ) → only_of (i ∷ x) ≡ only_after (suc i) x
-    by [] = add-one i
-    by (j ∷ x) = refl
+  -- one more element: a token behind another, the first token, a node
+  module _ (h : ltb (length l) 3 ≡ false) where
+    pub only_second : is_a_token l ≡ true → is_some o ≡ true → only_after o (tokens_in i l) ≡ None
+    only_second t p = rw (tokens_step i l (ltb-false _ _ h), t) (by o p)
+      where
+        by : (o : Option ℕ) → is_some o ≡ true → only_after o (i ∷ tokens_in (i + 1) (drop 3 l)) ≡ None
+        by None p = absurd (false≢true p)
+        by (Some x) p = refl
 
--- a token is the receiver exactly if its number is the lone one
-pub receiver_is : (rs : List ℕ) (i : ℕ) → is_receiver rs i ≡ eqb (only_of rs) (i + 1)
-receiver_is [] i = sym (ne_eqb 0 (i + 1) (λ e. omega arith))
-receiver_is (j ∷ []) i = by (eqb j i) refl
-  where
-    by : (b : Bool) → eqb j i ≡ b → (eqb j i && true) ≡ eqb (j + 1) (i + 1)
-    by true h = let e = eqb-true j i h in rw h (sym (eq-eqb (j + 1) (i + 1) (omega arith)))
-    by false h = rw h (sym (ne_eqb (j + 1) (i + 1) (λ e. eqb-false j i h (omega arith))))
-receiver_is (j ∷ (k ∷ l)) i = and-false (eqb j i) ∙ sym (ne_eqb 0 (i + 1) (λ e. omega arith))
+    pub only_first : is_a_token l ≡ true → is_some o ≡ false → only_after o (tokens_in i l) ≡ only_after (Some i) (tokens_in (i + 1) (drop 3 l))
+    only_first t p = rw (tokens_step i l (ltb-false _ _ h), t) (by o p)
+      where
+        by : (o : Option ℕ) → is_some o ≡ false → only_after o (i ∷ tokens_in (i + 1) (drop 3 l)) ≡ only_after (Some i) (tokens_in (i + 1) (drop 3 l))
+        by None p = only_first_of i (tokens_in (i + 1) (drop 3 l))
+        by (Some x) p = absurd (false≢true (sym p))
+
+    pub only_node : is_a_token l ≡ false → only_after o (tokens_in i l) ≡ only_after o (tokens_in (i + 1) (drop 3 l))
+    only_node t = rw (tokens_step i l (ltb-false _ _ h), t)
 
 -- the tokens of the node that was found are those below it
 pub found_tokens : (low high : ℕ) (c : Elems) → tokens_of (by_itself (find_node low high c)) ≡ tokens_of (children (find_node low high c))
@@ -145,3 +145,11 @@ found_tokens low high (node i k s e cs r) = by (between low high k) (found_token
         → tokens_of (by_itself (cond b (node i k s e cs r) (find_node low high r))) ≡ tokens_of (children (cond b (node i k s e cs r) (find_node low high r)))
     by true h = append-nil (tokens_of cs)
     by false h = h
+
+-- the receiver of what is below an element
+module _ (c : Elems) (rs : List ℕ) where
+  pub receiver_here : kind_of c ≡ 65 → only_of (receiver_below (kind_of c) (children c) rs) ≡ only_of (tokens_of (children (find_expression (children c))))
+  receiver_here h = rw (eq-eqb (kind_of c) 65 h, found_tokens 64 1023 (children c))
+
+  pub receiver_kept : (kind_of c ≡ 65 → ⊥) → only_of (receiver_below (kind_of c) (children c) rs) ≡ only_of rs
+  receiver_kept h = rw (ne_eqb (kind_of c) 65 h)

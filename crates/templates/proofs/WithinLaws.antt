@@ -5,7 +5,11 @@ use mathlib.Core.Bool.{Bool, true, false, cond}
 use mathlib.Core.List.{List, [], ◌∷◌, ◌++◌}
 use Prim.Native.Nat.{ℕ, ◌+◌, ◌/◌, ◌≤◌, ◌<◌}
 use native.Mathlib.Omega.{arith}
-use lib.Dec.{eqb}
+use lib.Dec.{eqb, ltb}
+use Rattle.std.specs.Prelude.{Option, Some, None, IfSome}
+use Rattle.std.specs.List.{position_or_len}
+use Rattle.parsing.specs.Reading.{Var}
+use Rattle.rust_code.specs.StandIns.{has_stand_in, stand_in_position}
 use lib.ListN.{length}
 use borrow.Author.Tests.{ltb-true}
 use Rattle.words.specs.Texts.{part}
@@ -13,9 +17,17 @@ use Rattle.syntax.specs.Trees.{Elems, none, token, node, size, Numbered, tree, t
 use Rattle.syntax.proofs.Words.{token_good, node_good, tiles_order}
 use Rattle.syntax.proofs.Bridge.{length-words}
 use Rattle.syntax.proofs.Exactly.{tree_built}
-use Rattle.paths.specs.Names.{is_stand_in}
 use Rattle.paths.specs.Steps.{Side}
-use Rattle.templates.specs.Pieces.{Piece, text, path, receiver_below, is_receiver, Template, template_of, ident_piece, token_piece, Mode, everything, first_segment, but_names, node_pieces, render, pieces, Fits, AllFit}
+use Rattle.templates.specs.declared.Piece.{Piece}
+use Rattle.templates.specs.declared.Piece.TheVariants.{Text, Path}
+use Rattle.templates.specs.Pieces.{receiver_below, is_receiver, Template, template_of, ident_piece, token_piece, Mode, everything, first_segment, but_names, node_pieces, render, pieces, Fits, AllFit}
+
+low_if : (b : Bool) (i n : ℕ) → (b ≡ true → i < n) → IfSome (cond b (Some i) None) (λ slot. slot < n)
+low_if true i n h = h refl
+low_if false i n h = tt
+
+stand_in_within : (text : List ℕ) (vs : List Var) (x : List ℕ) → IfSome (stand_in_position text vs x) (λ slot. slot < length vs)
+stand_in_within text vs x = low_if (ltb (position_or_len (has_stand_in text x) vs) (length vs)) _ (length vs) (λ t. ltb-true _ _ t)
 
 module _ (bytes n slots : ℕ) where
   fit_append : (ps qs : List Piece) → AllFit bytes n slots ps → AllFit bytes n slots qs → AllFit bytes n slots (ps ++ qs)
@@ -30,22 +42,22 @@ module _ (t : Template) (bytes n : ℕ) where
   abbrev slots : ℕ
   slots = length t.placeholders.vars
 
-  fit_ident : (name : List ℕ) (s e : ℕ) (r : Bool) → s ≤ e → e ≤ bytes → Fits bytes n slots (ident_piece t.placeholders name s e r)
-  fit_ident name s e r h k = by (is_stand_in t.placeholders name) refl
+  fit_ident : (name : List ℕ) (s e : ℕ) (r : Bool) → s ≤ e → e ≤ bytes → Fits bytes n slots (ident_piece (stand_in_position t.placeholders.text t.placeholders.vars name) s e r)
+  fit_ident name s e r h k = by (stand_in_position t.placeholders.text t.placeholders.vars name) (stand_in_within t.placeholders.text t.placeholders.vars name)
     where
-      by : (b : Bool) → is_stand_in t.placeholders name ≡ b → Fits bytes n slots (ident_piece t.placeholders name s e r)
-      by true q = rw q (ltb-true _ _ q)
-      by false q = rw q (h, k)
+      by : (o : Option ℕ) → IfSome o (λ slot. slot < slots) → Fits bytes n slots (ident_piece o s e r)
+      by None q = (h, k)
+      by (Some slot) q = q
 
   fit_token : (rs : List ℕ) (i k s e : ℕ) → s ≤ e → e ≤ bytes → Fits bytes n slots (token_piece t rs i k s e)
   fit_token rs i k s e h l = by (eqb k 1)
     where
-      by : (b : Bool) → Fits bytes n slots (cond b (ident_piece t.placeholders (part t.code s e) s e (is_receiver rs i)) (text s e))
+      by : (b : Bool) → Fits bytes n slots (cond b (ident_piece (stand_in_position t.placeholders.text t.placeholders.vars (part t.code s e)) s e (is_receiver rs i)) (Text s e))
       by true = fit_ident (part t.code s e) s e (is_receiver rs i) h l
       by false = (h, l)
 
   fit_node : (i : ℕ) (below : Mode → List Piece) → i < n → ((m : Mode) → AllFit bytes n slots (below m)) → AllFit bytes n slots (node_pieces t i below)
-  fit_node i below h f = fit_either bytes n slots (t.rendered i) (path i ∷ below first_segment) (below everything) (h, f first_segment) (f everything)
+  fit_node i below h f = fit_either bytes n slots (t.rendered i) (Path i ∷ below first_segment) (below everything) (h, f first_segment) (f everything)
 
   render_fit : (c : Elems) (i from to : ℕ) → tiles from to c ≡ true → formed tiles c ≡ true → to ≤ bytes → Numbered i c → i + size c ≤ n
       → (m : Mode) (rs : List ℕ) → AllFit bytes n slots (render t m rs c)

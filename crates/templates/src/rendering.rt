@@ -1,166 +1,96 @@
 // `render_node`, `render_node_children`, `render_node_or_token` and `render_token` of docs/src/src/replacing.rs, into a buffer of pieces.
-ghost use Rattle.std.specs.Prelude.{◌≡◌, true, List, map, ℕ, ◌+◌, ◌/◌, ◌≤◌, ◌<◌, length, get_or, take};
-ghost use Rattle.words.specs.Fields.{syntax_kind, start_of, end_of};
-ghost use Rattle.parsing.specs.Reading.{Var};
-ghost use Rattle.parsing.specs.Answers.{Eight, pattern_of};
-ghost use Rattle.syntax.specs.Parts.{child_words};
-ghost use Rattle.syntax.specs.Trees.{elems, tree};
-ghost use Rattle.syntax.specs.Checks.{WellFormed};
-ghost use Rattle.paths.specs.Steps.{side_of};
-ghost use Rattle.paths.specs.Tables.{TablesOf};
-ghost use Rattle.templates.specs.Pieces.{renders_path, token_piece, render, pieces, code_of};
-ghost use Rattle.templates.specs.Rendering.{only_of, template_by, mode_of, element_pieces, Laid, Lays, Room};
+ghost use Rattle.std.specs.Prelude.{◌≡◌, List, ℕ, ◌/◌, ◌≤◌, ◌<◌, length, take};
+ghost use Rattle.syntax.specs.Trees.{size};
+ghost use Rattle.syntax.specs.Accessors.{range_of, by_itself};
+ghost use Rattle.syntax.specs.Siblings.{kind_of};
+ghost use Rattle.syntax.specs.Views.{elems_of};
+ghost use Rattle.paths.specs.Steps.{root_of};
+ghost use Rattle.templates.specs.Pieces.{template_of, token_piece, render, pieces};
+ghost use Rattle.templates.specs.Rendering.{only_of, mode_of, element_pieces, Room};
 
-use crate::{codes, receivers};
-use facts::index;
-use parsing::patterns::Pattern;
-use syntax::{accessors, parts};
-use words::{fields, slices};
-
-// Whether an element is rendered as a path.
-fn is_rendered(paths: &[u32], facts: &[u32], element: usize) -> bool
-    ensures { result ≡ renders_path facts.now (get_or paths.now element 0) }
-{
-    let noted = fields::word(paths, element);
-    if noted == 0 {
-        return false;
-    }
-    index::value(facts, (noted - 1) as usize, 2) / 2 % 2 == 1
-}
+use crate::{Piece, receivers};
+use paths::Resolved;
+use syntax::kinds::{IDENT, Kinds, NAME_REF, PATH_SEGMENT};
+use syntax::parts::Part;
+use words::fields;
 
 // The token that a part begins with.
-fn render_token(
-    c: &[u32],
-    number: usize,
-    receiver: usize,
-    code: &[u8],
-    text: &[u8],
-    pattern: Pattern,
-) -> u64
-    requires { Eight pattern × (number < 16384) }
-    ensures { (vs : List Var) (ns rs facts paths : List ℕ) → pattern ≡ pattern_of vs ns → receiver ≡ only_of rs → result ≡ code_of (token_piece (template_by text.now vs code.now facts paths) rs number (syntax_kind c.now) (start_of c.now) (end_of c.now)) }
+#[tactic(auto, using(crate::proofs::RenderLaws::token_other, crate::proofs::RenderLaws::token_name, crate::proofs::RenderLaws::token_hole))]
+fn render_token(resolved: &Resolved<'_>, c: Part<'_>, receiver: Option<usize>) -> Piece
+    requires { ((range_of (elems_of c)).start < 65536) × ((range_of (elems_of c)).end < 65536) }
+    ensures { (rs : List ℕ) → receiver ≡ only_of rs → result ≡ token_piece (template_of resolved.now.side (root_of resolved.now)) rs c.entry.number (kind_of (elems_of c.entry)) (range_of (elems_of c.entry)).start (range_of (elems_of c.entry)).end }
 {
-    let start = fields::start(c);
-    let end = fields::end(c);
-    if fields::syntax_kind(c) == 1 {
-        let slot = rust_code::find_stand_in(text, pattern, slices::part_of(code, start, end));
-        if slot < pattern.count {
-            return codes::hole_piece(slot, receiver == number + 1);
+    if c.kind() == IDENT {
+        if let Some(slot) = resolved.find_stand_in(c.text(resolved.code())) {
+            return Piece::Hole {
+                slot: slot as u8,
+                is_receiver: receiver == Some(c.number),
+            };
         }
-        return codes::text_piece(start, end);
     }
-    codes::text_piece(start, end)
+    let range = c.range();
+    Piece::Text {
+        start: range.start as u16,
+        end: range.end as u16,
+    }
 }
 
-// The element that a part begins with, and what is below it: the place behind its pieces.
-#[cycle(render_node_children_render_node_or_token)]
+// The element that a part begins with, and what is below it, in the first of a buffer: how many pieces these are.
+#[cycle(render)]
 fn render_node_or_token(
-    c: &[u32],
-    number: usize,
+    resolved: &Resolved<'_>,
+    c: Part<'_>,
     nameless: bool,
-    receiver: usize,
-    code: &[u8],
-    text: &[u8],
-    pattern: Pattern,
-    facts: &[u32],
-    paths: &[u32],
-    out: &mut [u64],
-    at: usize,
+    receiver: Option<usize>,
+    out: &mut [Piece],
 ) -> usize
-    requires { Eight pattern × Room c.now number at out.old × (3 ≤ length c.now) }
-    ensures laid { Laid (1 + length (child_words c.now) / 3) at result out.old out.new }
-    ensures lays { (vs : List Var) (ns rs : List ℕ) → pattern ≡ pattern_of vs ns → receiver ≡ only_of rs → Lays (element_pieces (template_by text.now vs code.now facts.now paths.now) nameless rs (elems number c.now)) at result out.old out.new }
+    requires room { Room c (size (by_itself (elems_of c))) out.old × (3 ≤ length c.words.now) }
+    ensures out_len_unchanged { length out.new ≡ length out.old }
+    ensures few { result ≤ size (by_itself (elems_of c.entry)) }
+    ensures laid { (rs : List ℕ) → receiver ≡ only_of rs → take result out.new ≡ element_pieces (template_of resolved.now.side (root_of resolved.now)) nameless rs (elems_of c.entry) }
 {
-    if nameless & accessors::is_node_in(c, 4, 4) {
-        return at;
+    if nameless & c.is_node_in(Kinds::one(NAME_REF)) {
+        return 0;
     }
-    if fields::is_token(c) {
-        out[at] = render_token(c, number, receiver, code, text, pattern);
-        return at + 1;
+    if fields::is_token(c.words) {
+        out[0] = render_token(resolved, c, receiver);
+        return 1;
     }
-    let below = receivers::receiver_below(c, number, receiver);
-    let children = parts::children(c);
-    if is_rendered(paths, facts, number) {
-        out[at] = codes::path_piece(number);
-        let passed = accessors::find_node(children, 3, 3);
-        let segment = receivers::children_behind(children, passed);
-        return render_node_children(
-            segment,
-            number + passed + 2,
-            true,
-            below,
-            code,
-            text,
-            pattern,
-            facts,
-            paths,
-            out,
-            at + 1,
-        );
+    let below = receivers::receiver_below(c, receiver);
+    if resolved.refers_to_definition(c.number) {
+        out[0] = Piece::Path(c.number as u16);
+        let segment = c.first_child(PATH_SEGMENT);
+        return 1 + render_node_children(resolved, segment.children(), true, below, &mut out[1..]);
     }
-    render_node_children(
-        children,
-        number + 1,
-        false,
-        below,
-        code,
-        text,
-        pattern,
-        facts,
-        paths,
-        out,
-        at,
-    )
+    render_node_children(resolved, c.children(), false, below, out)
 }
 
-// Siblings and what is below them, NAME_REF nodes among them or not: the place behind their pieces.
-#[cycle(render_node_children_render_node_or_token)]
+// Siblings and what is below them, NAME_REF nodes among them or not, in the first of a buffer: how many pieces these are.
+#[cycle(render)]
 fn render_node_children(
-    part: &[u32],
-    number: usize,
+    resolved: &Resolved<'_>,
+    part: Part<'_>,
     nameless: bool,
-    receiver: usize,
-    code: &[u8],
-    text: &[u8],
-    pattern: Pattern,
-    facts: &[u32],
-    paths: &[u32],
-    out: &mut [u64],
-    at: usize,
+    receiver: Option<usize>,
+    out: &mut [Piece],
 ) -> usize
-    requires { Eight pattern × Room part.now number at out.old }
-    ensures laid { Laid (length part.now / 3) at result out.old out.new }
-    ensures lays { (vs : List Var) (ns rs : List ℕ) → pattern ≡ pattern_of vs ns → receiver ≡ only_of rs → Lays (render (template_by text.now vs code.now facts.now paths.now) (mode_of nameless) rs (elems number part.now)) at result out.old out.new }
+    requires room { Room part (size (elems_of part)) out.old }
+    ensures out_len_unchanged { length out.new ≡ length out.old }
+    ensures few { result ≤ size (elems_of part.entry) }
+    ensures laid { (rs : List ℕ) → receiver ≡ only_of rs → take result out.new ≡ render (template_of resolved.now.side (root_of resolved.now)) (mode_of nameless) rs (elems_of part.entry) }
 {
-    let mut c = part;
-    let mut i = number;
-    let mut end = at;
-    while 3 <= c.len() {
-        end = render_node_or_token(
-            c, i, nameless, receiver, code, text, pattern, facts, paths, out, end,
-        );
-        i += parts::span_of(c);
-        let d = parts::rest(c);
-        c = d;
+    let mut count = 0;
+    for c in part {
+        count += render_node_or_token(resolved, c, nameless, receiver, &mut out[count..]);
     }
-    end
+    count
 }
 
-// The pieces of a template whose paths were resolved, in turn; how many there are.
-pub fn template_pieces(
-    words: &[u32],
-    code: &[u8],
-    text: &[u8],
-    pattern: Pattern,
-    facts: &[u32],
-    paths: &[u32],
-    out: &mut [u64],
-) -> usize
-    requires { WellFormed words.now × Eight pattern × (length words.now / 3 ≤ length out.old) }
-    ensures out_len_unchanged { (length out.new ≡ length out.old) × (result ≤ length words.now / 3) }
-    ensures out_after { (vs : List Var) (ns calls : List ℕ) → pattern ≡ pattern_of vs ns → TablesOf (side_of text.now vs code.now facts.now) (tree words.now) (length words.now / 3) true paths.now calls → take result out.new ≡ map code_of (pieces (side_of text.now vs code.now facts.now) (tree words.now)) }
+// The pieces of a template in turn, in the first of a buffer; how many these are.
+pub fn render_template(resolved: &Resolved<'_>, out: &mut [Piece]) -> usize
+    requires { length resolved.now.words / 3 ≤ length out.old }
+    ensures out_len_unchanged { (length out.new ≡ length out.old) × (result ≤ length resolved.now.words / 3) }
+    ensures out_after { take result out.new ≡ pieces resolved.now.side (root_of resolved.now) }
 {
-    render_node_children(
-        words, 0, false, 0, code, text, pattern, facts, paths, out, 0,
-    )
+    render_node_children(resolved, resolved.tree().root(), false, None, out)
 }

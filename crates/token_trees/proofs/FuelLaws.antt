@@ -6,13 +6,15 @@ use mathlib.Core.List.{List, ◌++◌}
 use Prim.Native.Nat.{ℕ, zero, suc, ◌+◌, ◌-◌, ◌≤◌}
 use native.Mathlib.Nat.{add-zero, add-suc}
 use native.Mathlib.Omega.{arith}
+use Rattle.std.proofs.Common.{Option, Some, None}
+use Rattle.std.specs.Prelude.{unwrap_or, option_map}
 use Rattle.syntax.specs.Trees.{Elems}
 use Rattle.syntax.specs.Accessors.{some}
-use Rattle.siblings.specs.Siblings.{is_a_token, is_trivia, skip_trivia}
+use Rattle.syntax.specs.Siblings.{is_a_token, is_trivia, skip_trivia}
 use Rattle.captures.specs.Attempts.{Event, Attempt, failed, matched, and_then}
 use Rattle.captures.proofs.PartLaws.{fails_not}
-use Rattle.matcher.specs.Matcher.{Matcher, is_placeholder}
-use Rattle.token_trees.specs.Runs.{Run}
+use Rattle.matcher.specs.Matcher.{Matcher, placeholder_of}
+use Rattle.token_trees.specs.Runs.{Run, is_at_tree}
 use Rattle.token_trees.specs.TokenTrees.{match_token_tree, match_tokens, match_run}
 
 -- ---- where one attempt matches, the other does, with the same events
@@ -38,6 +40,11 @@ pub below_cond : (h : Bool) {a a' b b' : Attempt} → Below a a' → Below b b' 
 below_cond true f g = f
 below_cond false f g = g
 
+pub below_slot : (slot : Option ℕ) {f g : ℕ → Attempt} {a b : Attempt} → ((n : ℕ) → Below (f n) (g n)) → Below a b
+    → Below (unwrap_or (option_map f slot) a) (unwrap_or (option_map g slot) b)
+below_slot (Some n) h k = h n
+below_slot None h k = k
+
 -- what one more keeps, any larger bound keeps
 pub below_more : (f : ℕ → Attempt) → ((n : ℕ) → Below (f n) (f (suc n))) → (m n : ℕ) → m ≤ n → Below (f m) (f n)
 below_more f step m n h = let e : m + (n - m) ≡ n = omega (arith, h) in subst (λ (k : ℕ). Below (f m) (f k)) e (by (n - m))
@@ -58,13 +65,13 @@ mutual
   step-tokens zero x ps cs = below-failed _
   step-tokens (suc n) x ps cs =
       below_cond (some cs)
-      (below_cond (is_placeholder x (skip_trivia ps)) (step_run n x _ _ _)
+      (below_slot (placeholder_of x (skip_trivia ps)) (λ slot. step_run n x slot _ _)
       (below_cond (is_trivia cs) (below_then (below_refl _) (step-tokens n x _ _))
       (below_cond (is_a_token cs) (below_then (below_refl _) (step-tokens n x _ _))
       (below_then (below_refl _) (below_then (step-tree n x _ _) (step-tokens n x _ _))))))
       (below_refl _)
 
-  pub step_run : (n : ℕ) (x : Matcher) (p c : Elems) (u : Run) → Below (match_run n x p c u) (match_run (suc n) x p c u)
-  step_run zero x p c u = below-failed _
-  step_run (suc n) x p c u =
-      below_then (below_cond u.is_tree_of (step-tree n x _ _) (below_refl _)) (below_then (below_refl _) (step-tokens n x _ _))
+  pub step_run : (n : ℕ) (x : Matcher) (slot : ℕ) (c : Elems) (u : Run) → Below (match_run n x slot c u) (match_run (suc n) x slot c u)
+  step_run zero x slot c u = below-failed _
+  step_run (suc n) x slot c u =
+      below_then (below_cond (is_at_tree u) (step-tree n x _ _) (below_refl _)) (below_then (below_refl _) (step-tokens n x _ _))

@@ -1,4 +1,4 @@
--- Laws of the definitions of specs/, for the proofs of this crate and of those above.
+-- Laws of the definitions of specs/.
 pub mod RunLaws
 pub mod TokenTreeLaws
 pub mod FuelLaws

@@ -1,85 +1,73 @@
 // How far a placeholder's run in a token tree goes.
-ghost use Rattle.std.specs.Prelude.{◌≡◌, ℕ, ◌+◌, ◌*◌, ◌≤◌, length};
-ghost use Rattle.syntax.specs.Trees.{elems};
-ghost use Rattle.token_trees.specs.Runs.{is_stop, RunIs};
+ghost use Rattle.std.specs.Prelude.{◌≡◌, ◌≤◌, ◌<◌, length, IfSome};
+ghost use Rattle.syntax.specs.Views.{elems_of, IsWithin};
+ghost use Rattle.token_trees.specs.Runs.{is_stop, run, run_of};
 
-use matcher::token_matching;
-use syntax::accessors;
-use words::{fields, slices};
+use matcher::{Matcher, token_matching};
+use syntax::kinds::ElementKind;
+use syntax::parts::Part;
+use words::fields;
 
-// Whether a run ends at a stop, and whether that is a subtree; how many elements are before the last one taken, how many of the pattern are
-// used up meanwhile, and how many of the code are before the stop.
+// Whether a run ends at a stop, and which kind of element that is; the last element taken; and what is left of the pattern and of the code,
+// from the stop on.
 #[derive(Clone, Copy)]
-pub struct Run {
-    pub stops: bool,
-    pub is_tree: bool,
-    pub last: usize,
-    pub p: usize,
-    pub c: usize,
+pub struct Run<'a> {
+    pub stop: Option<ElementKind>,
+    pub last: Part<'a>,
+    pub p: Part<'a>,
+    pub c: Part<'a>,
 }
 
 // Whether the first of the code's siblings is, or begins with, the token that stops a run.
-fn is_stop(stop: &[u32], c: &[u32], rule: &[u8], file: &[u8]) -> bool
-    ensures { (i j : ℕ) → result ≡ is_stop rule.now file.now (elems i stop.now) (elems j c.now) }
+fn is_stop(x: &Matcher, stop: Part, c: Part) -> bool
+    ensures { result ≡ is_stop x.now.rule.now x.now.file.now (elems_of stop.entry) (elems_of c.entry) }
 {
-    let first = accessors::first_token(c);
-    if (stop.len() < 3) | (first.len() < 3) {
+    let first = c.first_token();
+    if stop.is_empty() | first.is_empty() {
         return false;
     }
-    let at = accessors::range_of(stop);
-    let other = accessors::range_of(first);
-    token_matching::same_stop(
-        siblings::kind_of(stop),
-        slices::part_of(rule, at.start, at.end),
-        siblings::kind_of(first),
-        slices::part_of(file, other.start, other.end),
-    )
+    let text = stop.text(x.rule);
+    let other = first.text(x.file);
+    token_matching::same_stop(stop.kind(), text, first.kind(), other)
 }
 
-// The run that begins with the first of the code's siblings, where the pattern goes on with a part. A run stops where a stop is met, but for
+// The run that begins with the first of the code's siblings, where the pattern goes on with some. A run stops where a stop is met, but for
 // a subtree that meets no node of the pattern: that element is used up.
-pub fn run_from(part: &[u32], c: &[u32], rule: &[u8], file: &[u8]) -> Run
-    requires { 3 ≤ length c.now }
-    ensures p_in_bounds { (result.p * 3 ≤ length part.now) × (result.c * 3 ≤ length c.now) × (result.last * 3 + 3 ≤ length c.now) × (1 ≤ result.c) }
-    ensures by_index { (i j : ℕ) → RunIs rule.now file.now i part.now j c.now result }
+#[tactic(auto, using(crate::proofs::RunLaws::run_end, crate::proofs::RunLaws::stops_at_token, crate::proofs::RunLaws::stops_at_node, crate::proofs::RunLaws::uses_up, crate::proofs::RunLaws::goes_on, syntax::proofs::SiblingLaws::long_some, syntax::proofs::TreeLaws::elems_end))]
+pub fn run_from<'a>(x: &Matcher, p: Part<'a>, c: Part<'a>) -> Run<'a>
+    requires { 3 ≤ length c.words.now }
+    ensures value { run_of result ≡ run x.now.rule.now x.now.file.now (elems_of p.entry) (elems_of c.entry) }
+    ensures p_in_bounds { IsWithin result.p p.entry }
+    ensures c_in_bounds { IsWithin result.c c.entry × (length result.c.words.now < length c.entry.words.now) }
+    ensures at_stop { IfSome result.stop (λ kind. 3 ≤ length result.c.words.now) }
 {
-    let stop = accessors::first_token(siblings::behind(part, siblings::skip_trivia(part)));
-    let mut last: usize = 0;
-    let mut at = siblings::width(c);
-    let mut used: usize = 0;
-    let mut ps = part;
-    let mut cs = siblings::behind(c, at);
-    while 3 <= cs.len() {
-        let mut n: usize = 0;
-        if is_stop(stop, cs, rule, file) {
-            let k = siblings::skip_trivia(ps);
-            let q = siblings::behind(ps, k);
-            let is_tree = !fields::is_token(cs);
-            if !is_tree | accessors::is_node_in(q, 1, 4095) {
+    let stop = p.skip_trivia().first_token();
+    let mut p = p;
+    let mut last = c;
+    for next in c.rest() {
+        if is_stop(x, stop, next) {
+            let q = p.skip_trivia();
+            let kind = if fields::is_token(next.words) {
+                ElementKind::Token
+            } else {
+                ElementKind::Node
+            };
+            if (kind == ElementKind::Token) | q.is_node() {
                 return Run {
-                    stops: true,
-                    is_tree,
+                    stop: Some(kind),
                     last,
-                    p: used,
-                    c: at,
+                    p,
+                    c: next,
                 };
             }
-            n = k + siblings::first_width(q);
+            p = q.rest();
         }
-        let d = siblings::behind(ps, n);
-        ps = d;
-        used += n;
-        last = at;
-        let w = siblings::width(cs);
-        let e = siblings::behind(cs, w);
-        cs = e;
-        at += w;
+        last = next;
     }
     Run {
-        stops: false,
-        is_tree: false,
+        stop: None,
         last,
-        p: used,
-        c: at,
+        p,
+        c: last.none(),
     }
 }

@@ -1,179 +1,119 @@
-// `attempt_match_token_tree` of docs/src/src/matching.rs. The pattern's elements are numbered, since the rule's marks are by number; the
-// code's are not looked up.
-ghost use Rattle.std.specs.Prelude.{◌≡◌, List, true, ℕ, ◌+◌, ◌*◌, ◌≤◌, ◌<◌, length};
+// `attempt_match_token_tree` of docs/src/src/matching.rs.
+ghost use Rattle.std.specs.Prelude.{◌≡◌, ◌≤◌, ◌<◌, length};
 ghost use Rattle.captures.specs.Turns.{TurnOf, Steps};
-ghost use Rattle.matcher.specs.Matcher.{matcher_of, slot_in};
+ghost use Rattle.matcher.specs.Matcher.{matcher_of};
 ghost use Rattle.token_trees.specs.TokenTrees.{TokensGive, RunGives, TokenTreeGives};
 
 use crate::{comments, runs};
-use captures::{Answer, State, Turn};
-use matcher::marks::Context;
-use matcher::{marks, token_matching};
-use syntax::accessors;
+use captures::{SelfKind, State, Turn};
+use matcher::Matcher;
+use syntax::kinds::{ElementKind, TRIVIA};
+use syntax::parts::Part;
 
 // One turn at a placeholder, the first of the pattern's siblings: its run is bound.
-#[cycle(attempt_match_token_tree_run_turn_token_turn)]
-fn run_turn(
-    p: &[u32],
-    c: &[u32],
-    rule: &[u8],
-    file: &[u8],
-    marks: &[u32],
-    pe: usize,
-    cx: Context,
+#[tactic(auto, using(crate::proofs::TokenTreeLaws::no_subtree, crate::proofs::TokenTreeLaws::subtree, crate::proofs::TokenTreeLaws::subtree_fails, crate::proofs::TokenTreeLaws::run_stops, crate::proofs::TokenTreeLaws::run_ends))]
+#[cycle(token_tree)]
+fn run_turn<'a>(
+    x: &Matcher,
+    slot: usize,
+    p: Part<'a>,
+    c: Part<'a>,
     s: State,
     out: &mut [u8],
-) -> Turn
-    requires p_bound { (pe * 3 + length p.now ≤ 49152) × (3 ≤ length c.now) }
-    requires in_bounds { (3 ≤ length p.now) × (slot_in marks.now pe < 8) }
-    ensures out_len_unchanged { (length out.new ≡ length out.old) × Steps p.now c.now result }
-    ensures by_index { (words facts : List ℕ) (ce : ℕ) → TurnOf (TokensGive (matcher_of rule.now file.now marks.now words facts cx)) (RunGives (matcher_of rule.now file.now marks.now words facts cx)) pe p.now ce c.now s out.old result out.new }
+) -> Option<Turn<'a>>
+    requires in_bounds { (slot < 8) × (3 ≤ length c.words.now) }
+    ensures out_len_unchanged { length out.new ≡ length out.old }
+    ensures steps { Steps p.entry c.entry result }
+    ensures turn_of { TurnOf (TokensGive (matcher_of x.now)) (RunGives (matcher_of x.now) slot) p.entry c.entry s out.old result out.new }
 {
-    let w = siblings::width(p);
-    let ps = siblings::behind(p, w);
-    let u = runs::run_from(ps, c, rule, file);
-    let k = u.p + siblings::skip_trivia(siblings::behind(ps, u.p));
-    let q = siblings::behind(ps, k);
-    let last = siblings::behind(c, u.last);
-    let left = siblings::behind(c, u.c);
-    let slot = marks::slot_at(marks, pe);
-    if u.is_tree {
-        let r = attempt_match_token_tree(q, left, rule, file, marks, pe + w + k, cx, s, out);
-        if r.ok {
-            let t = r.state;
-            return Turn {
-                go: true,
-                p: w + k + siblings::first_width(q),
-                c: u.c + siblings::first_width(left),
-                state: captures::bind(t, slot, c, last, 0, 0),
-            };
-        }
-        return captures::stop();
-    }
-    let t = captures::bind(s, slot, c, last, 0, 0);
-    if u.stops {
-        return Turn {
-            go: true,
-            p: w + k + siblings::first_width(q),
-            c: u.c + siblings::first_width(left),
-            state: t,
-        };
-    }
-    Turn {
-        go: true,
-        p: w + u.p,
-        c: u.c,
-        state: t,
-    }
+    let run = runs::run_from(x, p.rest(), c);
+    let rest = run.c.rest();
+    let Some(kind) = run.stop else {
+        return Some(Turn {
+            p: run.p,
+            c: rest,
+            state: s.bind(slot, c, run.last, 0, SelfKind::Owned),
+        });
+    };
+    let q = run.p.skip_trivia();
+    let t = match kind {
+        ElementKind::Node => attempt_match_token_tree(x, q, run.c, s, out)?,
+        ElementKind::Token => s,
+    };
+    Some(Turn {
+        p: q.rest(),
+        c: rest,
+        state: t.bind(slot, c, run.last, 0, SelfKind::Owned),
+    })
 }
 
 // One turn: a placeholder's run, or the first of the code's siblings.
-#[cycle(attempt_match_token_tree_run_turn_token_turn)]
-fn token_turn(
-    p: &[u32],
-    c: &[u32],
-    rule: &[u8],
-    file: &[u8],
-    marks: &[u32],
-    pe: usize,
-    cx: Context,
+#[tactic(auto, using(crate::proofs::TokenTreeLaws::turn_run, crate::proofs::TokenTreeLaws::turn_trivia, crate::proofs::TokenTreeLaws::turn_token, crate::proofs::TokenTreeLaws::turn_node, crate::proofs::TokenTreeLaws::turn_token_stops, crate::proofs::TokenTreeLaws::turn_node_stops, crate::proofs::TokenTreeLaws::turn_other_stops))]
+#[cycle(token_tree)]
+fn token_turn<'a>(
+    x: &Matcher,
+    p: Part<'a>,
+    c: Part<'a>,
     s: State,
     out: &mut [u8],
-) -> Turn
-    requires { (pe * 3 + length p.now ≤ 49152) × (3 ≤ length c.now) }
-    ensures out_len_unchanged { (length out.new ≡ length out.old) × Steps p.now c.now result }
-    ensures by_index { (words facts : List ℕ) (ce : ℕ) → TurnOf (TokensGive (matcher_of rule.now file.now marks.now words facts cx)) (TokensGive (matcher_of rule.now file.now marks.now words facts cx)) pe p.now ce c.now s out.old result out.new }
+) -> Option<Turn<'a>>
+    requires in_bounds { 3 ≤ length c.words.now }
+    ensures out_len_unchanged { length out.new ≡ length out.old }
+    ensures steps { Steps p.entry c.entry result }
+    ensures turn_of { TurnOf (TokensGive (matcher_of x.now)) (TokensGive (matcher_of x.now)) p.entry c.entry s out.old result out.new }
 {
-    let k = siblings::skip_trivia(p);
-    let y = siblings::behind(p, k);
-    if marks::is_placeholder(y, marks, pe + k) {
-        let u = run_turn(y, c, rule, file, marks, pe + k, cx, s, out);
-        if u.go {
-            let t = u.state;
-            return Turn {
-                go: true,
-                p: k + u.p,
-                c: u.c,
-                state: t,
-            };
-        }
-        return captures::stop();
+    let q = p.skip_trivia();
+    if let Some(slot) = x.placeholder(q) {
+        return run_turn(x, slot, q, c, s, out);
     }
-    let n = siblings::width(c);
-    if accessors::is_token_in(c, 2, 3) {
-        let t = comments::record_ignored_comments(s, c, file, out);
-        return Turn {
-            go: true,
-            p: k,
-            c: n,
-            state: t,
-        };
+    if c.is_token_in(TRIVIA) {
+        return Some(Turn {
+            p: q,
+            c: c.rest(),
+            state: comments::record_ignored_comments(x, c, s, out),
+        });
     }
-    if accessors::is_token_in(c, 1, 1023) {
-        let sheet = cx.sheet;
-        let a = token_matching::attempt_match_token(rule, file, sheet, y, c);
-        if a.ok {
-            return Turn {
-                go: true,
-                p: k + a.passed,
-                c: n,
-                state: s,
-            };
-        }
-        return captures::stop();
+    if c.is_token() {
+        return Some(Turn {
+            p: x.attempt_match_token(q, c)?,
+            c: c.rest(),
+            state: s,
+        });
     }
-    if accessors::is_node_in(y, 1, 4095) {
-        let r = attempt_match_token_tree(y, c, rule, file, marks, pe + k, cx, s, out);
-        if r.ok {
-            let t = r.state;
-            return Turn {
-                go: true,
-                p: k + siblings::first_width(y),
-                c: n,
-                state: t,
-            };
-        }
-        return captures::stop();
+    if !q.is_node() {
+        return None;
     }
-    captures::stop()
+    Some(Turn {
+        p: q.rest(),
+        c: c.rest(),
+        state: attempt_match_token_tree(x, q, c, s, out)?,
+    })
 }
 
 // Matches two token trees.
-#[cycle(attempt_match_token_tree_run_turn_token_turn)]
+#[tactic(auto, using(crate::proofs::TokenTreeLaws::tokens_done, crate::proofs::TokenTreeLaws::tokens_left, crate::proofs::TokenTreeLaws::children_left, captures::proofs::TurnLaws::goes_further, captures::proofs::TurnLaws::goes_end))]
+#[cycle(token_tree)]
 pub fn attempt_match_token_tree(
-    p: &[u32],
-    c: &[u32],
-    rule: &[u8],
-    file: &[u8],
-    marks: &[u32],
-    pe: usize,
-    cx: Context,
+    x: &Matcher,
+    p: Part,
+    c: Part,
     s: State,
     out: &mut [u8],
-) -> Answer
-    requires { (pe * 3 + length p.now ≤ 49152) × (3 ≤ length p.now) × (3 ≤ length c.now) }
+) -> Option<State>
+    requires { 3 ≤ length c.words.now }
     ensures out_len_unchanged { length out.new ≡ length out.old }
-    ensures by_index { (words facts : List ℕ) (ce : ℕ) → TokenTreeGives (matcher_of rule.now file.now marks.now words facts cx) pe p.now ce c.now s out.old result out.new }
+    ensures tree_gives { TokenTreeGives (matcher_of x.now) p.entry c.entry s out.old result out.new }
 {
-    let mut ps = siblings::children(p);
-    let mut cs = siblings::children(c);
-    let mut at = pe + 1;
-    let mut t = s;
-    while 3 <= cs.len() {
-        let u = token_turn(ps, cs, rule, file, marks, at, cx, t, out);
-        if u.go {
-            let y = siblings::behind(ps, u.p);
-            let x = siblings::behind(cs, u.c);
-            ps = y;
-            cs = x;
-            at += u.p;
-            t = u.state;
-        } else {
-            return captures::fail();
-        }
+    let mut t = Turn {
+        p: p.children(),
+        c: c.children(),
+        state: s,
+    };
+    while !t.c.is_empty() {
+        t = token_turn(x, t.p, t.c, t.state, out)?;
     }
-    if siblings::behind(ps, siblings::skip_trivia(ps)).len() < 3 {
-        return Answer { ok: true, state: t };
+    if t.p.skip_trivia().is_empty() {
+        return Some(t.state);
     }
-    captures::fail()
+    None
 }

@@ -1,15 +1,14 @@
 -- A token list, document 01, "Words": "one kind 2 word a token, syntax kind and length in bytes (1 to 65,535); texts follow each other and
 -- fill the text"; "others 12 to 1,023".
 -- Assumes nothing.
-use Rattle.std.specs.Prelude.{ℕ, ◌+◌, ◌*◌, ◌≤◌, Bool, true, false, ◌&&◌, List, [], ◌∷◌, eqb, leb, length, drop}
+use Rattle.std.specs.Prelude.{ℕ, ◌+◌, Bool, true, ◌&&◌, List, [], ◌∷◌, eqb, leb, length}
 use Rattle.words.specs.Fields.{kind_at, token_kind, token_length}
-use Rattle.words.specs.Texts.{part, same_text}
+use Rattle.words.specs.Texts.{part}
 use Rattle.tokens.specs.declared.Token.{Token}
-use Rattle.tokens.specs.declared.Cursor.{Cursor}
 
 -- the token that a part of the words begins with, at a byte, and the tokens of a part
 abbrev pub token_at : List ℕ → ℕ → Token
-token_at c at = record { kind = token_kind c; start = at; length = token_length c }
+token_at c at = record { kind = token_kind c; range = record { start = at; end = at + token_length c } }
 
 unfoldable pub tokens_from : List ℕ → ℕ → List Token
 tokens_from [] at = []
@@ -17,7 +16,7 @@ tokens_from (w ∷ ws) at = token_at (w ∷ ws) at ∷ tokens_from ws (at + toke
 
 -- a token's text in the list's text
 abbrev pub token_text : List ℕ → Token → List ℕ
-token_text text t = part text t.start (t.start + t.length)
+token_text text t = part text t.range.start t.range.end
 
 -- refusal 1: "malformed list or over 255 tokens"
 abbrev pub is_token_word : List ℕ → Bool
@@ -34,22 +33,3 @@ total_length (w ∷ ws) = token_length (w ∷ ws) + total_length ws
 
 unfoldable pub is_token_list : List ℕ → List ℕ → Bool
 is_token_list words text = leb (length words) 255 && all_token_words words && eqb (total_length words) (length text)
-
--- what is left at a cursor
-abbrev pub rest : List ℕ → Cursor → List Token
-rest words c = tokens_from (drop c.index words) c.at
-
--- there is a token, with a certain text
-abbrev pub head_is : List ℕ → List Token → List ℕ → Bool
-head_is text [] expected = false
-head_is text (t ∷ ts) expected = same_text (token_text text t) expected
-
--- the cursor behind the token at a cursor
-abbrev pub after : List ℕ → Cursor → Cursor
-after words c = record { index = c.index + 1; at = c.at + token_length (drop c.index words) }
-
--- a cursor in a list of at most 255 tokens, at a byte that sums cannot pass
-pub record Along (words : List ℕ) (c : Cursor) : Type 0 where
-  pub few : length words ≤ 255
-  pub inside : c.index ≤ length words
-  pub low : c.at ≤ 65535 * c.index

@@ -1,24 +1,125 @@
 // Token lists: the tokens of a list of words, and whether the list is well-formed.
 #![tactic(auto)]
 
-ghost use Rattle.std.specs.Prelude.{◌≡◌, ◌∷◌, cond, ◌+◌, ◌*◌, ◌<◌, ◌≤◌, length, drop};
-ghost use Rattle.tokens.specs.Tokens.{token_at, token_text, is_token_word, is_token_list, rest, after, head_is, Along};
+ghost use Rattle.std.specs.Prelude.{◌≡◌, ◌≤◌, true, length};
+ghost use Rattle.std.specs.Iterator.{YieldsFirst, item_count};
+ghost use Rattle.tokens.specs.Tokens.{token_text, tokens_from, is_token_word, is_token_list};
 
-use words::{fields, slices};
+use std::marker::Model;
+use words::fields;
+use words::texts::Range;
+
+// The token kinds of document 01 that rules are read and trimmed by.
+pub const IDENT: u32 = 1;
+
+pub const WHITESPACE: u32 = 2;
+
+pub const RIGHT_BRACE: u32 = 6;
+
+pub const DOLLAR: u32 = 8;
+
+pub const LEFT_BRACE: u32 = 9;
+
+pub const COLON: u32 = 10;
 
 // A token of a list: its kind, and where its text stands in the list's text.
-#[derive(Clone, Copy)]
+#[derive(Clone, Copy, Debug, PartialEq, Eq)]
 pub struct Token {
     pub kind: u32,
-    pub start: usize,
-    pub length: usize,
+    pub range: Range,
 }
 
-// A place in a list: how many tokens were passed, and how many bytes they have.
+impl Token {
+    // Its text in the list's text.
+    pub fn text(self, text: &[u8]) -> &[u8]
+        ensures { result.now ≡ token_text text.now self }
+    {
+        self.range.of(text)
+    }
+}
+
+// A list of tokens: their words, and the text that their texts fill where it is well-formed.
 #[derive(Clone, Copy)]
-pub struct Cursor {
-    pub index: usize,
-    pub at: usize,
+pub struct TokenList<'a> {
+    pub words: &'a [u32],
+    pub text: &'a [u8],
+}
+
+impl<'a> TokenList<'a> {
+    // Whether words and text are a token list: at most 255 tokens, whose texts fill the text.
+    #[tactic(auto, unfolding(crate::specs::Tokens::is_token_list, crate::specs::Tokens::all_token_words, crate::specs::Tokens::total_length))]
+    pub fn is_well_formed(self) -> bool
+        ensures value { result ≡ is_token_list self.entry.words.now self.entry.text.now }
+        ensures few { result ≡ true → length self.entry.words.now ≤ 255 }
+    {
+        if 255 < self.words.len() {
+            return false;
+        }
+        let mut total: usize = 0;
+        let mut left = self.words;
+        while let [_, rest @ ..] = left {
+            if !is_token_word(left) {
+                return false;
+            }
+            total += fields::token_length(left);
+            left = rest;
+        }
+        total == self.text.len()
+    }
+
+    // The tokens in order.
+    #[tactic(auto, using(crate::proofs::Laws::length_tokens))]
+    pub fn tokens(self) -> Tokens<'a>
+        requires { length self.words.now ≤ 255 }
+        ensures value { result ≡ tokens_from self.entry.words.now 0 }
+        ensures few { length result ≤ 255 }
+    {
+        Tokens {
+            words: self.words,
+            at: 0,
+        }
+    }
+}
+
+// The tokens of a list that are left, seen as the list of them.
+#[derive(Drop)]
+pub struct Tokens<'a> {
+    words: &'a [u32],
+    at: usize,
+}
+
+impl<'a> Model for Tokens<'a> {
+    ghost use Rattle.std.specs.Prelude.{List, ◌+◌, ◌*◌, ◌≤◌, length};
+    ghost use Rattle.tokens.specs.declared.Token.{Token};
+    ghost use Rattle.tokens.specs.Tokens.{tokens_from};
+
+    ghost Value = { List Token };
+
+    ghost view = { λ s. tokens_from s.words.now s.at };
+
+    ghost invariant = { λ s. s.at + 65535 * length s.words.now ≤ 16711425 };
+}
+
+impl<'a> Iterator for Tokens<'a> {
+    type Item = Token;
+
+    ghost next_gives = { YieldsFirst (λ left. left) };
+
+    ghost remaining = { item_count (λ left. left) };
+
+    #[tactic(auto, unfolding(crate::specs::Tokens::tokens_from))]
+    fn next(&mut self) -> Option<Token> {
+        let (_, rest) = self.words.split_first()?;
+        let start = self.at;
+        let end = start + fields::token_length(self.words);
+        let token = Token {
+            kind: fields::token_kind(self.words),
+            range: Range { start, end },
+        };
+        self.words = rest;
+        self.at = end;
+        Some(token)
+    }
 }
 
 // Whether the word that a part begins with is a token's.
@@ -27,71 +128,4 @@ fn is_token_word(c: &[u32]) -> bool
 {
     let kind = fields::token_kind(c);
     (fields::kind(c, 0) == 2) & (1 <= kind) & (kind <= 1023) & (1 <= fields::token_length(c))
-}
-
-// Whether words and text are a token list: at most 255 tokens, whose texts fill the text.
-pub fn is_token_list(words: &[u32], text: &[u8]) -> bool
-    ensures { result ≡ is_token_list words.now text.now }
-{
-    if 255 < words.len() {
-        return false;
-    }
-    let mut total: usize = 0;
-    let mut i = 0;
-    while i < words.len() {
-        let c = slices::tail(words, i);
-        if is_token_word(c) {
-            total += fields::token_length(c);
-            i += 1;
-        } else {
-            return false;
-        }
-    }
-    total == text.len()
-}
-
-// The token at a cursor that is not at the end.
-pub fn token_at(words: &[u32], c: Cursor) -> Token
-    ensures { result ≡ token_at (drop c.index words.now) c.at }
-{
-    let part = slices::tail(words, c.index);
-    Token {
-        kind: fields::token_kind(part),
-        start: c.at,
-        length: fields::token_length(part),
-    }
-}
-
-// The cursor behind the token at a cursor.
-pub fn next(words: &[u32], c: Cursor) -> Cursor
-    requires along { Along words.now c }
-    requires index_in_bounds { c.index < length words.now }
-    ensures value { result ≡ after words.now c }
-    ensures along_2 { Along words.now result }
-{
-    let part = slices::tail(words, c.index);
-    Cursor {
-        index: c.index + 1,
-        at: c.at + fields::token_length(part),
-    }
-}
-
-// Whether there is a token at a cursor, and its text is another.
-pub fn is_text(words: &[u32], text: &[u8], c: Cursor, expected: &[u8]) -> bool
-    requires { Along words.now c }
-    ensures { result ≡ head_is text.now (rest words.now c) expected.now }
-{
-    if c.index < words.len() {
-        let t = token_at(words, c);
-        return text_at(text, t) == expected;
-    }
-    false
-}
-
-// A token's text.
-pub fn text_at(text: &[u8], t: Token) -> &[u8]
-    requires { t.start + t.length < 4294967296 }
-    ensures { result.now ≡ token_text text.now t }
-{
-    slices::part_of(text, t.start, t.start + t.length)
 }

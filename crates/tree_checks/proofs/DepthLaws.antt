@@ -1,89 +1,101 @@
--- How deep a part's elements are, from the front.
+-- How deep siblings are, from the first on.
 -- Assumes nothing.
-use mathlib.Core.Path.{◌≡◌, refl, sym, ap, ◌∙◌}
-use mathlib.Core.Bool.{Bool, true, false, cond, ◌&&◌}
-use mathlib.Core.List.{List, []}
-use Prim.Native.Nat.{ℕ, zero, suc, ◌+◌, ◌-◌, ◌*◌, ◌/◌, ◌≤◌, ◌<◌}
-use native.Mathlib.Omega.{arith}
-use native.Mathlib.Nat.{le_refl}
-use lib.ListN.{length, drop, length-take, length-drop}
-use lib.Dec.{leb}
-use borrow.Author.Tests.{leb-true, leb-false, le-leb, lt-leb}
-use Rattle.words.proofs.TestLaws.{low_or}
-use Rattle.words.specs.Fields.{is_a_token}
-use Rattle.syntax.specs.Parts.{span, child_words, rest_words}
-use Rattle.syntax.specs.Trees.{Elems, none, token, node, deeper, depth, elems}
-use Rattle.syntax.proofs.PartLaws.{span_pos, span-token, no_children, rest_shorter, children_shorter}
-use Rattle.syntax.proofs.TreeLaws.{elems_end, elems-token, elems_node}
+use Rattle.std.proofs.Common.{◌≡◌, refl, sym, Bool, true, false, List, ℕ, ◌+◌, ◌-◌, ◌*◌, ◌≤◌, leb, arith}
+use Rattle.std.proofs.lemmas.Bool.{false≢true}
+use borrow.Author.Tests.{leb-true, leb-false, le-leb}
+use Rattle.syntax.specs.Parts.{span, end_of_first}
+use Rattle.syntax.specs.Trees.{Elems, none, token, node, size, deeper, depth, elems}
+use Rattle.syntax.specs.Accessors.{children, rest, some, by_itself}
+use Rattle.syntax.proofs.ViewLaws.{width_is}
 
-depth_end : (i : ℕ) (l : List ℕ) → length l < 3 → depth (elems i l) ≡ 0
-unfolding depth
-depth_end i l h = rw (elems_end i l h)
-
-depth-next : (i : ℕ) (l : List ℕ) → 3 ≤ length l → (b : Bool) → is_a_token l ≡ b
-    → depth (elems i l) ≡ deeper (1 + depth (elems (i + 1) (child_words l))) (depth (elems (i + span l) (rest_words l)))
-unfolding depth
-depth-next i l h true t = rw (elems-token i l h t, depth_end (i + 1) (child_words l) (no_children l t), span-token l t)
-depth-next i l h false t = rw (elems_node i l h t)
-
-leb_deeper : (a b n : ℕ) (t : Bool) → leb a b ≡ t → leb (deeper a b) n ≡ (leb a n && leb b n)
-leb_deeper a b n true e = rw e (go (leb b n) refl)
+deeper-le : (a b n : ℕ) → a ≤ n → b ≤ n → deeper a b ≤ n
+deeper-le a b n h k = by (leb a b) refl
   where
-    go : (u : Bool) → leb b n ≡ u → leb b n ≡ (leb a n && leb b n)
-    go true f = rw (f, le-leb a n (omega (arith, leb-true a b e, leb-true b n f)))
-    go false f = rw f (both_false (leb a n))
+    by : (t : Bool) → leb a b ≡ t → deeper a b ≤ n
+    by true e = rw e k
+    by false e = rw e h
+
+deeper-gt : (a b n : ℕ) → deeper a b ≤ n → (a ≤ n) × (b ≤ n)
+deeper-gt a b n h = by (leb a b) refl
+  where
+    by : (t : Bool) → leb a b ≡ t → (a ≤ n) × (b ≤ n)
+    by true e = let k = rw e at h in (omega (arith, k, leb-true a b e), k)
+    by false e = let k = rw e at h in (k, omega (arith, k, leb-false a b e))
+
+-- siblings within n levels: the first one's children are within one less, and the others within n
+depth_first : (c : Elems) → some c ≡ true → depth c ≡ deeper (1 + depth (children c)) (depth (rest c))
+unfolding depth
+depth_first none h = absurd (false≢true h)
+depth_first (token i k s e r) h = refl
+depth_first (node i k s e cs r) h = refl
+
+depth_gone : (c : Elems) → some c ≡ false → depth c ≡ 0
+unfolding depth
+depth_gone none h = refl
+depth_gone (token i k s e r) h = absurd (false≢true (sym h))
+depth_gone (node i k s e cs r) h = absurd (false≢true (sym h))
+
+same_leb : (a b n : ℕ) → (a ≤ n → b ≤ n) → (b ≤ n → a ≤ n) → leb a n ≡ leb b n
+same_leb a b n f g = by (leb b n) refl
+  where
+    by : (t : Bool) → leb b n ≡ t → leb a n ≡ leb b n
+    by true e = rw (e, le-leb a n (g (leb-true b n e)))
+    by false e = rw e (not_le (leb a n) refl)
       where
-        both_false : (v : Bool) → false ≡ (v && false)
-        both_false true = refl
-        both_false false = refl
-leb_deeper a b n false e = rw e (go (leb a n) refl)
-  where
-    go : (u : Bool) → leb a n ≡ u → leb a n ≡ (leb a n && leb b n)
-    go true f = rw (f, le-leb b n (omega (arith, leb-false a b e, leb-true a n f)))
-    go false f = rw f
+        not_le : (u : Bool) → leb a n ≡ u → u ≡ false
+        not_le true d = absurd (omega (arith, f (leb-true a n d), leb-false b n e))
+        not_le false d = refl
 
-leb_suc : (a n : ℕ) → 1 ≤ n → leb (1 + a) n ≡ leb a (n - 1)
-leb_suc a n h = go (leb a (n - 1)) refl
-  where
-    go : (u : Bool) → leb a (n - 1) ≡ u → leb (1 + a) n ≡ u
-    go true f = le-leb (1 + a) n (omega (arith, leb-true a (n - 1) f))
-    go false f = lt-leb (1 + a) n (omega (arith, leb-false a (n - 1) f))
+module _ (c : Elems) (n : ℕ) where
+  pub shallow_gone : some c ≡ false → leb (depth c) n ≡ true
+  shallow_gone h = le-leb (depth c) n (omega (arith, depth_gone c h))
 
--- a part is within n levels: the end is, an element is not within 0, and else its children are within one less and what follows it is
-pub shallow_end : (i : ℕ) (l : List ℕ) (n : ℕ) → length l < 3 → leb (depth (elems i l)) n ≡ true
-shallow_end i l n h = rw (depth_end i l h) (le-leb 0 n (omega arith))
+  module _ (h : some c ≡ true) where
+    pub shallow_zero : n ≡ 0 → leb (depth c) n ≡ false
+    shallow_zero z = by (leb (depth c) n) refl
+      where
+        by : (t : Bool) → leb (depth c) n ≡ t → leb (depth c) n ≡ false
+        by true e =
+            let d : deeper (1 + depth (children c)) (depth (rest c)) ≤ n = rw (← depth_first c h) (leb-true (depth c) n e) in
+            absurd (omega (arith, (deeper-gt (1 + depth (children c)) (depth (rest c)) n d).0, z))
+        by false e = e
 
-pub shallow_zero : (i : ℕ) (l : List ℕ) → 3 ≤ length l → leb (depth (elems i l)) 0 ≡ false
-shallow_zero i l h =
-    rw (depth-next i l h (is_a_token l) refl, leb_deeper (1 + depth (elems (i + 1) (child_words l))) (depth (elems (i + span l) (rest_words l))) 0 _ refl, lt-leb (1 + depth (elems (i + 1) (child_words l))) 0 (omega arith))
+    shallow_on : 1 + depth (children c) ≤ n → leb (depth c) n ≡ leb (depth (rest c)) n
+    shallow_on k = same_leb (depth c) (depth (rest c)) n
+        (λ d. (deeper-gt (1 + depth (children c)) (depth (rest c)) n (rw (← depth_first c h) d)).1)
+        (λ d. rw (depth_first c h) (deeper-le (1 + depth (children c)) (depth (rest c)) n k d))
 
-pub shallow_next : (i : ℕ) (l : List ℕ) (n : ℕ) → 3 ≤ length l → 1 ≤ n
-    → leb (depth (elems i l)) n ≡ (leb (depth (elems (i + 1) (child_words l))) (n - 1) && leb (depth (elems (i + span l) (rest_words l))) n)
-shallow_next i l n h k =
-    rw (depth-next i l h (is_a_token l) refl, leb_deeper (1 + depth (elems (i + 1) (child_words l))) (depth (elems (i + span l) (rest_words l))) n _ refl, leb_suc (depth (elems (i + 1) (child_words l))) n k)
+    pub shallow_next : 1 ≤ n → leb (depth (children c)) (n - 1) ≡ true → leb (depth c) n ≡ leb (depth (rest c)) n
+    shallow_next k e = shallow_on (omega (arith, k, leb-true (depth (children c)) (n - 1) e))
 
-deeper-le : (a b n : ℕ) → a ≤ n → b ≤ n → (t : Bool) → leb a b ≡ t → deeper a b ≤ n
-deeper-le a b n h k true e = rw e k
-deeper-le a b n h k false e = rw e h
+    pub shallow_deep : 1 ≤ n → leb (depth (children c)) (n - 1) ≡ false → leb (depth c) n ≡ false
+    shallow_deep k f = by (leb (depth c) n) refl
+      where
+        by : (t : Bool) → leb (depth c) n ≡ t → leb (depth c) n ≡ false
+        by true e =
+            let d : deeper (1 + depth (children c)) (depth (rest c)) ≤ n = rw (← depth_first c h) (leb-true (depth c) n e) in
+            absurd (omega (arith, (deeper-gt (1 + depth (children c)) (depth (rest c)) n d).0, leb-false (depth (children c)) (n - 1) f))
+        by false e = e
 
 -- no element is deeper than there are elements
-few_next : (m i : ℕ) (l : List ℕ) → ((j : ℕ) (k : List ℕ) → length k ≤ m → depth (elems j k) ≤ length k / 3) → length l ≤ suc m → 3 ≤ length l → depth (elems i l) ≤ length l / 3
-few_next m i l few h t =
-    let r = rest_shorter l (omega arith) in
-    let s = children_shorter l (omega arith) in
-    let lc : length (child_words l) ≤ length l - 3 = simp (length-take, length-drop) (omega arith) in
-    let fc = few (i + 1) (child_words l) (omega arith) in
-    let fr = few (i + span l) (rest_words l) (omega arith) in
-    rw (depth-next i l t (is_a_token l) refl) (deeper-le (1 + depth (elems (i + 1) (child_words l))) (depth (elems (i + span l) (rest_words l))) (length l / 3) (omega arith) (omega arith) _ refl)
+depth_few : (c : Elems) → depth c ≤ size c
+unfolding depth size
+depth_few none = omega arith
+depth_few (token i k s e r) = deeper-le 1 (depth r) (1 + size r) (omega arith) (omega (arith, depth_few r))
+depth_few (node i k s e cs r) = deeper-le (1 + depth cs) (depth r) (1 + size cs + size r) (omega (arith, depth_few cs)) (omega (arith, depth_few r))
 
-depth_few : (m i : ℕ) (l : List ℕ) → length l ≤ m → depth (elems i l) ≤ length l / 3
-depth_few zero i l h = rw (depth_end i l (omega arith)) (omega arith)
-depth_few (suc m) i l h = low_or (length l) 3 (λ short. rw (depth_end i l short) (omega arith)) (λ t. few_next m i l (λ j k. depth_few m j k) h t)
+width_first : (c : Elems) → some c ≡ true → size (by_itself c) ≡ 1 + size (children c)
+unfolding size
+width_first none h = absurd (false≢true h)
+width_first (token i k s e r) h = refl
+width_first (node i k s e cs r) h = omega arith
 
 -- an element with no more than n elements is not looked into
-pub shallow_few : (i : ℕ) (l : List ℕ) (n : ℕ) → 3 ≤ length l → span l ≤ n → leb (depth (elems i l)) n ≡ leb (depth (elems (i + span l) (rest_words l))) n
+pub shallow_few : (i : ℕ) (l : List ℕ) (n : ℕ) → some (elems i l) ≡ true → span l ≤ n → leb (depth (elems i l)) n ≡ leb (depth (rest (elems i l))) n
 shallow_few i l n h k =
-    let p = span_pos l in
-    let lc : length (child_words l) ≤ span l * 3 - 3 = simp length-take (omega arith) in
-    let d = depth_few (length (child_words l)) (i + 1) (child_words l) (le_refl _) in
-    shallow_next i l n h (omega arith) ∙ rw (le-leb (depth (elems (i + 1) (child_words l))) (n - 1) (omega arith))
+    let c = elems i l in
+    let w = width_is i l in
+    let f = width_first c h in
+    let d = depth_few (children c) in
+    let e : end_of_first l ≤ span l * 3 = omega arith in
+    shallow_on c n h (omega (arith, w, f, d, e, k))

@@ -1,3 +1,3 @@
 -- Laws of the definitions of `syntax`, for the proofs of this crate.
-mod RowLaws
-mod DepthLaws
+pub mod RowLaws
+pub mod DepthLaws

@@ -1,71 +1,70 @@
 // Whether words are a well-formed tree over a text: 18, 19 and 20.
 #![tactic(auto)]
 
-ghost use Rattle.std.specs.Prelude.{◌≡◌, true, ℕ, ◌≤◌, ◌/◌, leb, length};
-ghost use Rattle.syntax.specs.Trees.{is_token_kind, is_node_kind, elems, tiles, is_tree_of, depth};
+ghost use Rattle.std.specs.Prelude.{◌≡◌, ◌≤◌, ◌<◌, ◌*◌, ◌/◌, leb, length, IfOk, IfErr, MatchOption};
+ghost use Rattle.errors.specs.Refusals.{ok, err};
+ghost use Rattle.syntax.specs.Parts.{span, rest_words};
+ghost use Rattle.syntax.specs.Trees.{tiles, is_tree_of, depth};
 ghost use Rattle.syntax.specs.Rows.{in_row, is_ranged, is_token_part, is_node_head, is_node_part, is_element, every, is_root};
+ghost use Rattle.syntax.specs.Views.{elems_of};
 ghost use Rattle.syntax.specs.Checks.{tree_outcome};
 
 use errors::Refusal;
+use syntax::kinds::{NODES, TOKENS};
 use syntax::parts;
+use syntax::parts::Part;
+use syntax::trees::Tree;
 use words::fields;
 
-// Whether siblings follow each other from one byte to another and use up the part.
+// What follows the first element; none where it is longer than the part.
 // A token is passed without a look at its size, so that the next element need not wait for it.
+fn rest(c: &[u32]) -> Option<&[u32]>
+    ensures { MatchOption result (length c.now < span c.now * 3) (λ d. (span c.now * 3 ≤ length c.now) × (d.now ≡ rest_words c.now)) }
+{
+    if fields::is_token(c) {
+        return c.get(3..);
+    }
+    let n = parts::span_of(c) * 3;
+    if c.len() < n {
+        return None;
+    }
+    Some(&c[n..])
+}
+
+// Whether siblings follow each other from one byte to another and use up the part.
+#[tactic(auto, using(crate::proofs::RowLaws::row_on, crate::proofs::RowLaws::row_off, crate::proofs::RowLaws::row_cut, syntax::proofs::PartLaws::span_pos))]
 fn are_in_row(part: &[u32], from: usize, to: usize) -> bool
     ensures { result ≡ in_row part.now from to }
 {
     let mut c = part;
     let mut at = from;
-    while 3 <= c.len() {
-        if fields::start(c) == at {
-            at = fields::end(c);
-            if fields::is_token(c) {
-                let d = &c[3..];
-                c = d;
-            } else {
-                let n = parts::span_of(c) * 3;
-                if c.len() < n {
-                    return false;
-                }
-                let d = &c[n..];
-                c = d;
-            }
-        } else {
+    while let [_, _, _, ..] = c {
+        if fields::start(c) != at {
             return false;
         }
+        at = fields::end(c);
+        let Some(behind) = rest(c) else {
+            return false;
+        };
+        c = behind;
     }
-    (c.len() == 0) & (at == to)
+    c.is_empty() && at == to
 }
 
 // Whether the words of a range have their kinds.
 fn is_ranged(c: &[u32]) -> bool
     ensures { result ≡ is_ranged c.now }
 {
-    (fields::kind(c, 1) == 3) & (fields::kind(c, 2) == 4)
-}
-
-// Whether a kind is a token's.
-fn is_token_kind(kind: u32) -> bool
-    ensures { result ≡ is_token_kind kind }
-{
-    (1 <= kind) & (kind <= 1023)
-}
-
-// Whether a kind is a node's.
-fn is_node_kind(kind: u32) -> bool
-    ensures { result ≡ is_node_kind kind }
-{
-    (1 <= kind) & (kind <= 4095)
+    fields::kind(c, 1) == 3 && fields::kind(c, 2) == 4
 }
 
 // Whether a token has size 1 and a token's kind, and is not empty.
 fn is_token_part(c: &[u32]) -> bool
     ensures { result ≡ is_token_part c.now }
 {
-    (fields::size(c) == 1)
-        & is_token_kind(fields::syntax_kind(c))
-        & (fields::start(c) < fields::end(c))
+    fields::size(c) == 1
+        && TOKENS.contains(fields::syntax_kind(c))
+        && fields::start(c) < fields::end(c)
 }
 
 // Whether a node's own words are in order.
@@ -73,96 +72,82 @@ fn is_node_head(c: &[u32]) -> bool
     ensures { result ≡ is_node_head c.now }
 {
     fields::is_node(c)
-        & (1 <= fields::size(c))
-        & is_node_kind(fields::syntax_kind(c))
-        & (fields::start(c) <= fields::end(c))
+        && 1 <= fields::size(c)
+        && NODES.contains(fields::syntax_kind(c))
+        && fields::start(c) <= fields::end(c)
 }
 
 // Whether an element is a node that its children tile.
 fn is_node_part(c: &[u32]) -> bool
     ensures { result ≡ is_node_part c.now }
 {
-    if is_node_head(c) {
-        return are_in_row(parts::children(c), fields::start(c), fields::end(c));
-    }
-    false
+    is_node_head(c)
+        && are_in_row(
+            Part::new(c).children().words,
+            fields::start(c),
+            fields::end(c),
+        )
 }
 
 // Whether an element is well-formed by itself.
+#[tactic(auto, unfolding(syntax::specs::Rows::is_element))]
 fn is_element(c: &[u32]) -> bool
     ensures { result ≡ is_element c.now }
 {
-    if is_ranged(c) {
-        if fields::is_token(c) {
-            return is_token_part(c);
+    is_ranged(c)
+        && if fields::is_token(c) {
+            is_token_part(c)
+        } else {
+            is_node_part(c)
         }
-        return is_node_part(c);
-    }
-    false
 }
 
 // Whether every element is.
+#[tactic(auto, using(crate::proofs::RowLaws::every_on, crate::proofs::RowLaws::every_short, syntax::proofs::PartLaws::slice_end))]
 fn are_elements(words: &[u32]) -> bool
     ensures { result ≡ every words.now }
 {
     let mut c = words;
-    while 3 <= c.len() {
-        if is_element(c) {
-            let d = &c[3..];
-            c = d;
-        } else {
+    while let [_, _, _, behind @ ..] = c {
+        if !is_element(c) {
             return false;
         }
+        c = behind;
     }
-    c.len() == 0
+    c.is_empty()
 }
 
 // Whether the first element is a node, holds all others and covers a text.
+#[tactic(auto, unfolding(syntax::specs::Rows::is_root))]
 fn is_root(c: &[u32], bytes: usize) -> bool
     ensures { result ≡ is_root bytes c.now }
 {
     fields::is_node(c)
-        & (fields::size(c) * 3 == c.len())
-        & (fields::start(c) == 0)
-        & (fields::end(c) == bytes)
+        && fields::size(c) * 3 == c.len()
+        && fields::start(c) == 0
+        && fields::end(c) == bytes
 }
 
 // Whether words within the limits are a well-formed tree over a text. Neither the stack nor the time grows with the depth.
+#[tactic(auto, using(syntax::proofs::Exactly::tree_exactly))]
 fn is_tree(words: &[u32], bytes: usize) -> bool
     requires words_len_bound { length words.now / 3 ≤ 16383 }
     requires bytes_bound { bytes ≤ 65535 }
     ensures { result ≡ is_tree_of tiles bytes words.now }
 {
-    if is_root(words, bytes) {
-        return are_elements(words);
-    }
-    false
+    is_root(words, bytes) && are_elements(words)
 }
 
 // Whether no element of a part is deeper than a number of levels. An element with no more below it than that is not looked into, and the
-// stack grows with the levels alone. Tokens are passed as in are_in_row.
-fn is_shallow(part: &[u32], levels: usize) -> bool
-    ensures { (i : ℕ) → result ≡ leb (depth (elems i part.now)) levels }
+// stack grows with the levels alone.
+#[tactic(auto, using(crate::proofs::DepthLaws::shallow_gone, crate::proofs::DepthLaws::shallow_zero, crate::proofs::DepthLaws::shallow_next, crate::proofs::DepthLaws::shallow_deep, crate::proofs::DepthLaws::shallow_few))]
+fn is_shallow(part: Part, levels: usize) -> bool
+    ensures { result ≡ leb (depth (elems_of part.entry)) levels }
 {
-    let mut c = part;
-    while 3 <= c.len() {
-        if levels < parts::span_of(c) {
-            if levels == 0 {
+    for c in part {
+        if levels < parts::span_of(c.words) {
+            if levels == 0 || !is_shallow(c.children(), levels - 1) {
                 return false;
-            }
-            if is_shallow(parts::children(c), levels - 1) {
-                let d = parts::rest(c);
-                c = d;
-            } else {
-                return false;
-            }
-        } else {
-            if fields::is_token(c) {
-                let d = &c[3..];
-                c = d;
-            } else {
-                let d = parts::rest(c);
-                c = d;
             }
         }
     }
@@ -170,20 +155,19 @@ fn is_shallow(part: &[u32], levels: usize) -> bool
 }
 
 // 18, 19 and 20 of a tree over a text of some bytes; another text than the one it should be is 19.
-pub fn check_tree(words: &[u32], bytes: usize, right_text: bool) -> Result<(), Refusal>
-    ensures { result ≡ tree_outcome right_text bytes words.now }
+#[tactic(auto, unfolding(errors::specs::Refusals::first_of))]
+pub fn check_tree<'a>(words: &'a [u32], bytes: usize, right_text: bool) -> Result<Tree<'a>, Refusal>
+    ensures accepted { IfOk result (λ t. (t.words.now ≡ words.now) × (tree_outcome right_text bytes words.now ≡ ok)) }
+    ensures refused { IfErr result (λ r. tree_outcome right_text bytes words.now ≡ err r) }
 {
-    if (16383 < words.len() / 3) | (65535 < bytes) {
+    if 16383 < words.len() / 3 || 65535 < bytes {
         return Err(Refusal::TreeTooLarge);
     }
-    if right_text {
-        if is_tree(words, bytes) {
-            if is_shallow(words, 128) {
-                return Ok(());
-            }
-            return Err(Refusal::TreeTooDeep);
-        }
+    if !right_text || !is_tree(words, bytes) {
         return Err(Refusal::MalformedTree);
     }
-    Err(Refusal::MalformedTree)
+    if !is_shallow(Part::new(words), 128) {
+        return Err(Refusal::TreeTooDeep);
+    }
+    Ok(Tree::new(words))
 }

@@ -1,53 +1,61 @@
 // Checking a pair: `validate_rule` of docs/src/src/parsing.rs, over token lists.
 #![tactic(auto)]
 
-ghost use Rattle.std.specs.Prelude.{◌≡◌, List, []};
-ghost use Rattle.parsing.specs.Reading.{Var, Reading};
-ghost use Rattle.parsing.specs.Answers.{Eight, pattern_of, answer_of};
-ghost use Rattle.validating.specs.Pairs.{defines_all, checked_pair, both_lists, pair_outcome};
+ghost use Rattle.std.specs.Prelude.{◌≡◌, option_map};
+ghost use Rattle.parsing.specs.Patterns.{var_of};
+ghost use Rattle.parsing.specs.Vars.{vars_of};
+ghost use Rattle.validating.specs.Pairs.{has_constraint, defines, defines_all, checked_pair, parts_of, pair_outcome};
 
 use errors::Refusal;
-use parsing::patterns;
-use parsing::patterns::{ParsedPattern, Pattern};
-use words::slices;
+use parsing::patterns::{Pattern, Placeholder};
+use parsing::reading;
+use tokens::TokenList;
+
+// Whether the pattern has the name of a placeholder of the template.
+fn defines(
+    pattern_text: &[u8],
+    pattern: &Pattern,
+    template_text: &[u8],
+    placeholder: &Placeholder,
+) -> bool
+    ensures { result ≡ defines pattern_text.now (vars_of pattern.now) template_text.now (var_of placeholder.now) }
+{
+    let name = placeholder.name.of(template_text);
+    pattern.find_name(pattern_text, name).is_some()
+}
 
 // Whether every placeholder of the template has its name in the pattern.
 fn defines_all(
     pattern_text: &[u8],
-    pattern: Pattern,
+    pattern: &Pattern,
     template_text: &[u8],
-    template: Pattern,
+    template: &Pattern,
 ) -> bool
-    requires eight { Eight pattern }
-    requires eight_2 { Eight template }
-    ensures { (ps ts : List Var) → pattern ≡ pattern_of ps [] → template ≡ pattern_of ts [] → result ≡ defines_all pattern_text.now ps template_text.now ts }
+    ensures { result ≡ defines_all pattern_text.now (vars_of pattern.now) template_text.now (vars_of template.now) }
 {
-    let n = template.count;
-    let mut i: usize = 0;
-    while i < n {
-        let p = template.placeholders[i];
-        let name = slices::part_of(template_text, p.name.start, p.name.end);
-        if patterns::find_name(pattern_text, pattern, name) < pattern.count {
-            i += 1;
-        } else {
-            return false;
-        }
-    }
-    true
+    template
+        .placeholders
+        .iter()
+        .all(|p| defines(pattern_text, pattern, template_text, p))
+}
+
+// Whether one of the placeholders has a constraint.
+fn has_constraint(template: &Pattern) -> bool
+    ensures { result ≡ has_constraint (vars_of template.now) }
+{
+    template.placeholders.iter().any(|p| !p.nots.is_empty())
 }
 
 // Two lists that were read: 14, then 15.
 fn check_template(
     pattern_text: &[u8],
-    pattern: Pattern,
+    pattern: &Pattern,
     template_text: &[u8],
-    template: Pattern,
+    template: &Pattern,
 ) -> Result<(), Refusal>
-    requires eight { Eight pattern }
-    requires eight_2 { Eight template }
-    ensures { (ps ts : List Var) → pattern ≡ pattern_of ps [] → template ≡ pattern_of ts [] → result ≡ checked_pair pattern_text.now ps template_text.now ts }
+    ensures { result ≡ checked_pair pattern_text.now (vars_of pattern.now) template_text.now (vars_of template.now) }
 {
-    if 0 < template.constraints {
+    if has_constraint(template) {
         return Err(Refusal::TemplateConstraint);
     }
     if defines_all(pattern_text, pattern, template_text, template) {
@@ -56,49 +64,20 @@ fn check_template(
     Err(Refusal::UndefinedPlaceholder)
 }
 
-// A pattern and a template, each read or refused.
-fn validate_lists(
-    pattern_text: &[u8],
-    pattern: ParsedPattern,
-    template_text: &[u8],
-    template: ParsedPattern,
-) -> Result<(), Refusal>
-    requires eight { Eight pattern.pattern }
-    requires eight_2 { Eight template.pattern }
-    ensures { (p t : Reading) → pattern ≡ answer_of p → template ≡ answer_of t → result ≡ both_lists pattern_text.now p template_text.now t }
-{
-    let p = pattern.outcome;
-    let t = template.outcome;
-    match p {
-        Ok(()) => match t {
-            Ok(()) => {
-                let ps = pattern.pattern;
-                let ts = template.pattern;
-                check_template(pattern_text, ps, template_text, ts)
-            }
-            Err(s) => Err(s),
-        },
-        Err(r) => match t {
-            Ok(()) => Err(r),
-            Err(s) => errors::lowest(Err(r), Err(s)),
-        },
-    }
-}
-
 // Checking a pair: 1 to 13 of either list, then 14, then 15; the pattern alone where no template is given.
-pub fn validate_rule(
-    pattern_words: &[u32],
-    pattern_text: &[u8],
-    has_template: bool,
-    template_words: &[u32],
-    template_text: &[u8],
-) -> Result<(), Refusal>
-    ensures { result ≡ pair_outcome pattern_words.now pattern_text.now has_template template_words.now template_text.now }
+pub fn validate_rule(pattern: TokenList, template: Option<TokenList>) -> Result<(), Refusal>
+    ensures { result ≡ pair_outcome pattern.entry.words.now pattern.entry.text.now (option_map parts_of template.entry) }
 {
-    let pattern = patterns::parse_pattern(pattern_words, pattern_text);
-    if has_template {
-        let template = patterns::parse_pattern(template_words, template_text);
-        return validate_lists(pattern_text, pattern, template_text, template);
+    let Some(template) = template else {
+        reading::parse_pattern(pattern)?;
+        return Ok(());
+    };
+    match (
+        reading::parse_pattern(pattern),
+        reading::parse_pattern(template),
+    ) {
+        (Ok(p), Ok(t)) => check_template(pattern.text, &p, template.text, &t),
+        (Err(r), Err(s)) => errors::lowest(Err(r), Err(s)),
+        (Err(r), Ok(_)) | (Ok(_), Err(r)) => Err(r),
     }
-    pattern.outcome
 }

@@ -3,4 +3,3 @@ pub mod ListLaws
 pub mod CheckLaws
 pub mod Theorem
 pub mod FoundLaws
-pub mod AnswerLaws

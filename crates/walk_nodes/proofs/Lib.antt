@@ -1,4 +1,4 @@
 -- Laws of the definitions of specs/, for this crate and those above.
 pub mod CandidateLaws
-pub mod TableLaws
-mod NodeLaws
+pub mod FoundLaws
+pub mod NodeLaws

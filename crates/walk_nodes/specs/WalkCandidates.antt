@@ -2,10 +2,9 @@
 -- candidates match: "A match is a candidate that `get_match` accepts".
 -- Assumes nothing.
 use Rattle.std.specs.Prelude.{ℕ, Bool, true, false, cond, List, [], ◌∷◌}
-use Rattle.syntax.specs.Trees.{Elems, size, tree}
+use Rattle.syntax.specs.Trees.{Elems, size}
 use Rattle.syntax.specs.Accessors.{element_at, node_in}
 use Rattle.captures.specs.Attempts.{Attempt, failed, matched}
-use Rattle.checks.specs.Given.{File}
 use Rattle.candidates.specs.Candidates.{Candidate, each}
 
 -- the element of a number with a rule, if it is a node
@@ -24,9 +23,6 @@ nodes_of t r = nodes_with t r (size t)
 abbrev pub walk_candidates : Elems → ℕ → List Candidate
 walk_candidates t rules = each rules (nodes_of t)
 
-abbrev pub root_of : File → Elems
-root_of f = tree f.words
-
 abbrev pub is_match : Attempt → Bool
 is_match failed = false
 is_match (matched es) = true
@@ -35,6 +31,10 @@ is_match (matched es) = true
 unfoldable pub accepted : (ℕ → ℕ → Attempt) → List Candidate → List Candidate
 accepted attempt [] = []
 accepted attempt (c ∷ l) = cond (is_match (attempt c.node c.rule)) (c ∷ accepted attempt l) (accepted attempt l)
+
+-- a candidate as two words
+abbrev pub pair_of : Candidate → List ℕ
+pair_of c = c.node ∷ c.rule ∷ []
 
 -- a list of candidates as words, two to a candidate
 unfoldable pub words_of : List Candidate → List ℕ

@@ -8,7 +8,7 @@ use native.Mathlib.Nat.{add_assoc}
 use native.Mathlib.Omega.{arith}
 use lib.Dec.{leb}
 use lib.ListN.{length, take, drop, replicate, length-append, length-take, length-drop, drop_of_length-le}
-use lib.Seq.{take_at, drop_at, drop-drop, take_all, length-take-le}
+use lib.Seq.{take_at, drop_at, drop-drop, length-take-le}
 use borrow.Author.Tests.{le-leb, lt-leb, leb-true, leb-false}
 use Rattle.std.proofs.Common.{Some, None}
 use Rattle.words.specs.Buffer.{used_of, padded, filled, laid, place_after, laid_if_room}
@@ -66,19 +66,6 @@ module _ (d : List ℕ) (at : ℕ) (bs : List ℕ) where
         add_assoc at (length bs) (length ys),
         append_assoc (take at d) bs ys,
       )
-
--- ---- clearing from a place on
-
-pub cleared_tail : (d ys : List ℕ) (at : ℕ) → ys ≡ replicate (length (take (length d - at) (drop at d))) 0 → take at d ++ (ys ++ drop (length d - at) (drop at d)) ≡ take at d ++ replicate (length d - at) 0
-cleared_tail d ys at h =
-    let k : length (drop at d) ≤ length d - at = omega (arith, length-drop at d) in
-    let m : length (take (length d - at) (drop at d)) ≡ length d - at = length-take-le (length d - at) (drop at d) (omega (arith, length-drop at d)) in
-    rw (h, m, drop_of_length-le (drop at d) k, append-nil)
-
-pub cleared-none : (d : List ℕ) (at : ℕ) → length d ≤ at → d ≡ take at d ++ replicate (length d - at) 0
-cleared-none d at h =
-    let z : length d - at ≡ 0 = omega arith in
-    rw (z, take_all at d h, append-nil)
 
 -- ---- the used part
 

@@ -4,12 +4,11 @@ use mathlib.Core.Path.{◌≡◌, refl, sym, ap, ◌∙◌}
 use mathlib.Core.Bool.{Bool, true, false, cond, ◌&&◌, and-false, and_assoc}
 use mathlib.Core.List.{List, [], ◌∷◌, ◌++◌}
 use Prim.Native.Nat.{ℕ, suc, ◌+◌, ◌-◌, ◌<◌, ◌≤◌}
-use native.Mathlib.Numerals.{add-one}
 use native.Mathlib.Omega.{arith}
-use lib.Dec.{eqb, leb, ltb}
-use lib.ListN.{length, get_or, take, drop, length-drop, drop_of_length-le}
-use lib.Seq.{drop-cons, drop-drop, take_all, take-add}
-use borrow.Author.Tests.{eqb-true, eqb-false, eq-eqb, ne_eqb, le-leb, lt-leb, ltb-true, ltb-false}
+use lib.Dec.{eqb, leb}
+use lib.ListN.{length, take, drop, drop_of_length-le}
+use lib.Seq.{drop-drop, take_all, take-add}
+use borrow.Author.Tests.{eqb-true, eqb-false, eq-eqb, ne_eqb, le-leb}
 use Rattle.words.proofs.TestLaws.{and_both}
 use Rattle.words.specs.Texts.{part, same_text, has_prefix}
 
@@ -20,20 +19,9 @@ module _ (t : List ℕ) (start end : ℕ) where
   unfolding part
   part_in h k = rw (le-leb start end h, le-leb end (length t) k)
 
-  pub part_reversed : end < start → part t start end ≡ []
-  unfolding part
-  part_reversed h = rw (lt-leb start end h)
-
-  pub part_outside : length t < end → part t start end ≡ []
-  unfolding part
-  part_outside h = rw (lt-leb end (length t) h, and-false (leb start end))
-
 either_none : (b : Bool) → cond {A = List ℕ} b [] [] ≡ []
 either_none true = refl
 either_none false = refl
-
-pub part-rest : (t : List ℕ) (n : ℕ) → n ≤ length t → part t n (length t) ≡ drop n t
-part-rest t n h = part_in t n (length t) h (omega arith) ∙ take_all (length t - n) (drop n t) (omega (arith, length-drop n t))
 
 pub part_none : (t : List ℕ) (n : ℕ) → part t n n ≡ []
 unfolding part
@@ -49,9 +37,6 @@ part_join t a b c h k l =
     rw (part_in t a b h (omega arith), part_in t b c k l, part_in t a c (omega arith) l, e, take-add (b - a) (c - b) (drop a t), drop-drop (b - a) a t, f)
 
 -- ---- a loop from the front
-
-pub same_step : (x y : List ℕ) (i : ℕ) → i < length x → i < length y → same_text (drop i x) (drop i y) ≡ (eqb (get_or x i 0) (get_or y i 0) && same_text (drop (i + 1) x) (drop (i + 1) y))
-same_step x y i h k = rw (add-one, drop-cons x i 0, drop-cons y i 0)
 
 pub same_end : (x y : List ℕ) (i : ℕ) → length x ≤ i → length y ≤ i → same_text (drop i x) (drop i y) ≡ true
 same_end x y i h k = rw (drop_of_length-le x h, drop_of_length-le y k)
@@ -96,10 +81,3 @@ pub same-append : (p x t : List ℕ) → same_text (p ++ x) t ≡ (has_prefix p 
 same-append [] x t = refl
 same-append (a ∷ p) x [] = refl
 same-append (a ∷ p) x (b ∷ t) = rw (eqb_sym a b, same-append p x t) (sym (and_assoc (eqb b a) (same_text (take (length p) t) p) (same_text x (drop (length p) t))))
-
-pub prefix_long : (p t : List ℕ) → has_prefix p t ≡ true → length p ≤ length t
-prefix_long p t h = by (ltb (length t) (length p)) refl
-  where
-    by : (b : Bool) → ltb (length t) (length p) ≡ b → length p ≤ length t
-    by true e = absurd (let f = prefix_short p t (ltb-true _ _ e) in let z : ◌≡◌ {A = ℕ} 0 1 = cc in omega arith)
-    by false e = ltb-false _ _ e

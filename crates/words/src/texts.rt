@@ -1,6 +1,6 @@
 // Texts: ranges of the file's or of the rule's, and the names of stand-ins.
 ghost use Rattle.std.specs.Prelude.{◌≡◌};
-ghost use Rattle.words.specs.Texts.{part, text_of, has_prefix, stand_in_prefix};
+ghost use Rattle.words.specs.Texts.{part, text_of};
 
 use crate::{fields, slices};
 
@@ -40,10 +40,3 @@ pub fn text_of<'a>(file: &'a [u8], rule: &'a [u8], source: Source, c: &[u32]) ->
 
 // What stand-in names begin with.
 pub const STAND_IN_PREFIX: &[u8] = b"__placeholder_";
-
-// Whether a text begins as stand-in names do.
-pub fn has_stand_in_prefix(t: &[u8]) -> bool
-    ensures { result ≡ has_prefix stand_in_prefix t.now }
-{
-    t.starts_with(STAND_IN_PREFIX)
-}

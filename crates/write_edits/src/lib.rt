@@ -1,286 +1,134 @@
 // The edit list of a job, from front to back: an edit for each outer row, with its text and those nested in it.
 #![tactic(auto)]
 
-ghost use Rattle.std.specs.Prelude.{◌≡◌, true, ◌+◌, ◌*◌, ◌≤◌, ◌<◌, length, take};
+ghost use Rattle.std.specs.Prelude.{◌≡◌, ◌≤◌, ◌<◌, length, take};
 ghost use Rattle.words.specs.Buffer.{filled};
-ghost use Rattle.matcher.specs.FileFacts.{FileOf};
-ghost use Rattle.checks.specs.Given.{rules_of};
-ghost use Rattle.preparing.specs.Ready.{MarksRoomy};
-ghost use Rattle.parses.specs.Parses.{is_parse_list};
 ghost use Rattle.rendering.specs.Traces.{Trace, within};
 ghost use Rattle.edits.specs.Answers.{answer_of, bytes_of};
-ghost use Rattle.nester.specs.Rows.{field};
-ghost use Rattle.rows.specs.Rows.{World, row_trace};
-ghost use Rattle.render_replace.specs.Worlds.{handed_of, Shown, Checked, Lent, HasFrames, AtHand};
+ghost use Rattle.collections.specs.Worlds.{is_outer};
+ghost use Rattle.rows.specs.Rows.{World};
+ghost use Rattle.render_replace.specs.Worlds.{Shown, AtHand};
 ghost use Rattle.render_replace.specs.Answers.{Answers};
-ghost use Rattle.write_edits.specs.Lists.{node_start, node_end, edit_over, row_edit, row_edits, edits_within};
+ghost use Rattle.write_edits.specs.Lists.{EditLeft, EditsLeft, node_start, node_end, edits_within};
 
-use checks::Restriction;
-use edits::Edited;
+use edits::{EditHead, Edited};
 use errors::Refusal;
-use readying::Template;
-use render_replace::Rendered;
-use render_replace::turns::Laid;
-use rows::matches;
-use words::{fields, slices};
+use nester::{Nesting, Row};
+use readying::ReadyTemplate;
+use render_replace::turns::row_of;
+use render_replace::{Handed, RenderTables};
+use replacing::Event;
+use rows::frames::Frame;
+use syntax::trees::Tree;
 
-// The length of an edit's text, which is known now, is put in its words: they begin at a place, and the text stands behind them.
-fn put_length(out: &mut [u8], at: usize, start: u32, end: u32, laid: Laid)
-    requires { (at + 12 ≤ length out.old) × (length out.old ≤ 1048576) × ((u : Trace) × Answers u (at + 12) out.old laid) }
-    ensures out_unchanged { take at out.new ≡ take at out.old }
-    ensures answers { (u : Trace) → Answers u (at + 12) out.old laid → Answers (edit_over start end u) at out.new laid }
+// Whether a row is outer.
+fn is_outer(row: &Row) -> bool
+    ensures { result ≡ is_outer row.now.state }
 {
-    match laid {
-        Laid::At(behind) => {
-            edits::put_edit(out, at, start, end, (behind - (at + 12)) as u32);
-        }
-        Laid::Unbound => {}
-        Laid::NoRoom => {}
-        Laid::Asked(_, _, _) => {}
+    matches!(row.state, Nesting::Outermost)
+}
+
+// The words of the edit of a node, but for the length of its text, which is not known yet.
+#[tactic(auto, using(syntax::proofs::ViewLaws::range_itself, captures::proofs::BindingLaws::start_fits, captures::proofs::BindingLaws::end_fits))]
+fn head_of(tree: Tree, node: usize) -> EditHead
+    ensures start { result.start ≡ node_start tree.entry.words.now node }
+    ensures end { result.end ≡ node_end tree.entry.words.now node }
+    ensures length { result.length ≡ 0 }
+{
+    let range = tree.element(node).range();
+    EditHead {
+        start: range.start as u32,
+        end: range.end as u32,
+        length: 0,
     }
 }
 
-// The edit of row k, from a place on. `was` is the template that is at hand, if any; the tables are lent.
-fn write_edit<'a>(
-    directory: &[u32],
-    words: &[u32],
-    bytes: &'a [u8],
-    fact_text: &'a [u8],
-    tree: &[u32],
-    text: &[u8],
-    facts: &[u32],
-    file_index: &[u64],
-    parses: &[u32],
-    parse_text: &[u8],
-    rows: &[u32],
-    links: &[u32],
-    range: Restriction,
-    frames: &mut [u32],
+// The edit of row k, where it is outer, from a place on: its length is put in its words when the text is laid.
+#[tactic(auto, using(crate::proofs::EditLaws::inner_left, crate::proofs::EditLaws::full_left, crate::proofs::EditLaws::begins_behind, crate::proofs::EditLaws::text_rises, crate::proofs::EditLaws::put_same))]
+fn write_edit<'a, const N: usize>(
+    handed: &Handed<'_, 'a, N>,
+    frames: &mut [Frame],
     k: usize,
-    was: Template,
-    index: &mut [u64],
-    spare: &mut [u64],
-    paths: &mut [u32],
-    calls: &mut [u32],
-    marks: &mut [u32],
+    tables: &mut RenderTables<N>,
+    at_hand: &mut Option<ReadyTemplate<'a>>,
     out: &mut [u8],
     at: usize,
-) -> Rendered
-    requires checked { Checked (rules_of directory.now words.now bytes.now (length fact_text.now))
-        × Lent words.now index.old spare.old paths.old calls.old × MarksRoomy words.now marks.old
-        × FileOf tree.now facts.now file_index.now }
-    requires parses_value { (is_parse_list (length parse_text.now) parses.now ≡ true) × (length out.old ≤ 1048576)
-        × (at ≤ length out.old) × AtHand (rules_of directory.now words.now bytes.now (length fact_text.now)) was spare.old }
-    requires shown { (W : World) × Shown W
-        (handed_of directory.now words.now bytes.now fact_text.now tree.now text.now facts.now range
-        parses.now parse_text.now rows.now links.now) × (k < W.count) × HasFrames W frames.old }
-    ensures out_unchanged { (take at out.new ≡ take at out.old)
-        × AtHand
-        (rules_of directory.now words.now bytes.now (length fact_text.now))
-        result.template spare.new }
-    ensures answers { (W : World) → Shown W
-        (handed_of directory.now words.now bytes.now fact_text.now
-        tree.now text.now facts.now range parses.now parse_text.now
-        rows.now links.now)
-        → k < W.count → HasFrames W frames.old → Answers (edit_over (node_start tree.now (field rows.now k 0))
-        (node_end tree.now (field rows.now k 0)) (row_trace W k)) at out.new result.laid }
+) -> Result<usize, Event>
+    requires at_hand { AtHand handed.now.rules at_hand.old tables.old.pieces }
+    requires fits { (length out.old ≤ 1048576) × (at ≤ length out.old) }
+    requires shown { (W : World) × Shown W handed.now × (k < length handed.now.rows) × (length handed.now.rows ≤ length frames.old) }
+    ensures frames_len { length frames.new ≡ length frames.old }
+    ensures out_unchanged { (length out.new ≡ length out.old) × (take at out.new ≡ take at out.old) }
+    ensures at_hand { AtHand handed.now.rules at_hand.new tables.new.pieces }
+    ensures edit_left { EditLeft handed.now k at out.new result }
 {
-    let element = slices::tail(tree, 3 * (matches::word(rows, k, 0) as usize));
-    let start = fields::start(element) as u32;
-    let end = fields::end(element) as u32;
-    match edits::put_edit(out, at, start, end, 0) {
-        Some(begin) => {
-            let r = render_replace::render_replace(
-                directory, words, bytes, fact_text, tree, text, facts, file_index, parses,
-                parse_text, rows, links, range, frames, k, was, index, spare, paths, calls, marks,
-                out, begin,
-            );
-            let laid = r.laid;
-            let template = r.template;
-            put_length(out, at, start, end, laid);
-            Rendered { laid, template }
-        }
-        None => Rendered {
-            laid: Laid::NoRoom,
-            template: was,
-        },
+    let row = row_of(handed.rows, k);
+    if !is_outer(row) {
+        return Ok(at);
     }
+    let head = head_of(handed.file.tree, row.node as usize);
+    let begin = head.put(out, at).ok_or(Event::NoRoom)?;
+    let behind = render_replace::render_replace(handed, frames, k, tables, at_hand, out, begin)?;
+    let whole = EditHead {
+        length: (behind - begin) as u32,
+        ..head
+    };
+    whole.put(out, at);
+    Ok(behind)
 }
 
-// The edit of row k, where it is outer.
-fn write_row<'a>(
-    directory: &[u32],
-    words: &[u32],
-    bytes: &'a [u8],
-    fact_text: &'a [u8],
-    tree: &[u32],
-    text: &[u8],
-    facts: &[u32],
-    file_index: &[u64],
-    parses: &[u32],
-    parse_text: &[u8],
-    rows: &[u32],
-    links: &[u32],
-    range: Restriction,
-    frames: &mut [u32],
-    k: usize,
-    was: Template,
-    index: &mut [u64],
-    spare: &mut [u64],
-    paths: &mut [u32],
-    calls: &mut [u32],
-    marks: &mut [u32],
+// The edits of all rows, from the front.
+#[tactic(auto, using(crate::proofs::ListLaws::laying_all))]
+fn write_rows<'a, const N: usize>(
+    handed: &Handed<'_, 'a, N>,
+    frames: &mut [Frame],
+    tables: &mut RenderTables<N>,
+    at_hand: &mut Option<ReadyTemplate<'a>>,
     out: &mut [u8],
-    at: usize,
-) -> Rendered
-    requires checked { Checked (rules_of directory.now words.now bytes.now (length fact_text.now))
-        × Lent words.now index.old spare.old paths.old calls.old × MarksRoomy words.now marks.old
-        × FileOf tree.now facts.now file_index.now }
-    requires parses_value { (is_parse_list (length parse_text.now) parses.now ≡ true) × (length out.old ≤ 1048576)
-        × (at ≤ length out.old) × AtHand (rules_of directory.now words.now bytes.now (length fact_text.now)) was spare.old }
-    requires shown { (W : World) × Shown W
-        (handed_of directory.now words.now bytes.now fact_text.now tree.now text.now facts.now range
-        parses.now parse_text.now rows.now links.now) × (k < W.count) × HasFrames W frames.old }
-    ensures out_unchanged { (take at out.new ≡ take at out.old)
-        × AtHand
-        (rules_of directory.now words.now bytes.now (length fact_text.now))
-        result.template spare.new }
-    ensures answers { (W : World) → Shown W
-        (handed_of directory.now words.now bytes.now fact_text.now
-        tree.now text.now facts.now range parses.now parse_text.now
-        rows.now links.now)
-        → k < W.count → HasFrames W frames.old → Answers (row_edit tree.now W k) at out.new result.laid }
+) -> Result<usize, Event>
+    requires at_hand { AtHand handed.now.rules at_hand.old tables.old.pieces }
+    requires fits { length out.old ≤ 1048576 }
+    requires shown { (W : World) × Shown W handed.now × (length handed.now.rows ≤ length frames.old) }
+    ensures out_len_unchanged { length out.new ≡ length out.old }
+    ensures edits_left { EditsLeft handed.now out.new result }
 {
-    if matches::word(rows, k, 2) == 2 {
-        return write_edit(
-            directory, words, bytes, fact_text, tree, text, facts, file_index, parses, parse_text,
-            rows, links, range, frames, k, was, index, spare, paths, calls, marks, out, at,
-        );
+    let mut at = 0;
+    for k in 0..handed.rows.len() {
+        at = write_edit(handed, frames, k, tables, at_hand, out, at)?;
     }
-    Rendered {
-        laid: Laid::At(at),
-        template: was,
-    }
-}
-
-// The edits of so many rows, from the front.
-fn write_rows<'a>(
-    directory: &[u32],
-    words: &[u32],
-    bytes: &'a [u8],
-    fact_text: &'a [u8],
-    tree: &[u32],
-    text: &[u8],
-    facts: &[u32],
-    file_index: &[u64],
-    parses: &[u32],
-    parse_text: &[u8],
-    rows: &[u32],
-    links: &[u32],
-    range: Restriction,
-    frames: &mut [u32],
-    count: usize,
-    index: &mut [u64],
-    spare: &mut [u64],
-    paths: &mut [u32],
-    calls: &mut [u32],
-    marks: &mut [u32],
-    out: &mut [u8],
-) -> Laid
-    requires checked { Checked (rules_of directory.now words.now bytes.now (length fact_text.now))
-        × Lent words.now index.old spare.old paths.old calls.old × MarksRoomy words.now marks.old
-        × FileOf tree.now facts.now file_index.now }
-    requires parses_value { (is_parse_list (length parse_text.now) parses.now ≡ true) × (length out.old ≤ 1048576) × (22 * count ≤ length frames.old) }
-    requires shown { (W : World) × Shown W
-        (handed_of directory.now words.now bytes.now fact_text.now tree.now text.now facts.now range
-        parses.now parse_text.now rows.now links.now) × (W.count ≡ count) }
-    ensures { (W : World) → Shown W
-        (handed_of directory.now words.now bytes.now fact_text.now
-        tree.now text.now facts.now range parses.now parse_text.now
-        rows.now links.now)
-        → W.count ≡ count → Answers (row_edits tree.now W) 0 out.new result }
-{
-    let mut at: usize = 0;
-    let mut k: usize = 0;
-    let mut template = readying::no_template();
-    while k < count {
-        let r = write_row(
-            directory, words, bytes, fact_text, tree, text, facts, file_index, parses, parse_text,
-            rows, links, range, frames, k, template, index, spare, paths, calls, marks, out, at,
-        );
-        let laid = r.laid;
-        let t = r.template;
-        match laid {
-            Laid::At(behind) => {
-                at = behind;
-                template = t;
-                k += 1;
-            }
-            Laid::Unbound => return Laid::Unbound,
-            Laid::NoRoom => return Laid::NoRoom,
-            Laid::Asked(kind, from, to) => return Laid::Asked(kind, from, to),
-        }
-    }
-    Laid::At(at)
+    Ok(at)
 }
 
 // The answer, and the buffer then, by what stands in it.
-fn answer(laid: Laid, out: &mut [u8]) -> Edited
+fn answer(laid: Result<usize, Event>, out: &mut [u8]) -> Result<Edited, Refusal>
     requires { (length out.old ≤ 1048576) × ((u : Trace) × Answers u 0 out.old laid) }
     ensures { (u : Trace) → Answers u 0 out.old laid
         → (result ≡ answer_of (within u (length out.old)))
         × (out.new ≡ filled out.old (bytes_of (within u (length out.old)))) }
 {
     match laid {
-        Laid::At(behind) => edits::end(out, behind),
-        Laid::Unbound => edits::refuse(Refusal::UnboundPlaceholder, out),
-        Laid::NoRoom => edits::refuse(Refusal::NoRoom, out),
-        Laid::Asked(kind, from, to) => edits::ask(out, kind, from, to - from),
+        Ok(behind) => edits::end(out, behind),
+        Err(Event::Unbound) => edits::refuse(Refusal::UnboundPlaceholder, out),
+        Err(Event::NoRoom) => edits::refuse(Refusal::NoRoom, out),
+        Err(Event::Asked { kind, from, to }) => edits::ask(out, kind, from, to - from),
     }
 }
 
-// The edit list of so many rows in a buffer that is used whole. What it asks for is some world that the words show; what it answers is right
+// The edit list of all rows in a buffer that is used whole. What it asks for is some world that the values show; what it answers is right
 // in every such world.
-pub fn write_edits<'a>(
-    directory: &[u32],
-    words: &[u32],
-    bytes: &'a [u8],
-    fact_text: &'a [u8],
-    tree: &[u32],
-    text: &[u8],
-    facts: &[u32],
-    file_index: &[u64],
-    parses: &[u32],
-    parse_text: &[u8],
-    rows: &[u32],
-    links: &[u32],
-    range: Restriction,
-    frames: &mut [u32],
-    count: usize,
-    index: &mut [u64],
-    spare: &mut [u64],
-    paths: &mut [u32],
-    calls: &mut [u32],
-    marks: &mut [u32],
+pub fn write_edits<const N: usize>(
+    handed: &Handed<'_, '_, N>,
+    frames: &mut [Frame],
+    tables: &mut RenderTables<N>,
     out: &mut [u8],
-) -> Edited
-    requires checked { Checked (rules_of directory.now words.now bytes.now (length fact_text.now))
-        × Lent words.now index.old spare.old paths.old calls.old × MarksRoomy words.now marks.old
-        × FileOf tree.now facts.now file_index.now }
-    requires parses_value { (is_parse_list (length parse_text.now) parses.now ≡ true) × (length out.old ≤ 1048576) × (22 * count ≤ length frames.old) }
-    requires shown { (W : World) × Shown W
-        (handed_of directory.now words.now bytes.now fact_text.now tree.now text.now facts.now range
-        parses.now parse_text.now rows.now links.now) × (W.count ≡ count) }
-    ensures { (W : World) → Shown W
-        (handed_of directory.now words.now bytes.now fact_text.now
-        tree.now text.now facts.now range parses.now parse_text.now
-        rows.now links.now)
-        → W.count ≡ count → (result ≡ answer_of (edits_within tree.now W out.old))
-        × (out.new ≡ filled out.old (bytes_of (edits_within tree.now W out.old))) }
+) -> Result<Edited, Refusal>
+    requires fits { length out.old ≤ 1048576 }
+    requires shown { (W : World) × Shown W handed.now × (length handed.now.rows ≤ length frames.old) }
+    ensures { (W : World) → Shown W handed.now
+        → (result ≡ answer_of (edits_within handed.now.file.words W out.old))
+        × (out.new ≡ filled out.old (bytes_of (edits_within handed.now.file.words W out.old))) }
 {
-    let laid = write_rows(
-        directory, words, bytes, fact_text, tree, text, facts, file_index, parses, parse_text,
-        rows, links, range, frames, count, index, spare, paths, calls, marks, out,
-    );
+    let mut at_hand = None;
+    let laid = write_rows(handed, frames, tables, &mut at_hand, out);
     answer(laid, out)
 }

@@ -1,34 +1,15 @@
--- `candidates::are_named` meets its contract: the candidates passed are named.
+-- `candidates::are_named` meets its contract.
 use mathlib.Core.Path.{sym, ap, ◌∙◌}
 use mathlib.Core.Bool.{not}
-use native.Mathlib.Omega.{arith}
-use borrow.Author.Rules.{rules}
-use lib.ListN.{length-drop}
-use Rattle.syntax.specs.Trees.{tree}
-use Rattle.candidates.proofs.CandidateLaws.{bad_more, bad_stop, bad_end}
-use Rattle.std.proofs.Common.{rules}
+use Rattle.syntax.specs.Views.{tree_of}
+use Rattle.candidates.proofs.Loops.{bad_more, bad_stop, bad_end}
 use Rattle.candidates.proofs.are_named.Goals as goal
 
-pub is_named-requires : goal.is_named-requires
-is_named-requires c = c.requires
+pub returns-then-not-is_named : goal.returns-then-not-is_named
+returns-then-not-is_named c = let l = c.loop-candidate.invariant in let s = c.in-Some.ensures.steps.1 in ap not (sym (l.1 ∙ bad_stop (tree_of c.args.tree) c.args.rules _ _ _ s.0 (rw l.0 at s.1) s.2 (sym c.is_named.ensures ∙ c.if-not-is_named.true)))
 
-pub loop-c-smaller : goal.loop-c-smaller
-loop-c-smaller c = rw c.tail-d.ensures (simp length-drop (omega (arith, c.loop-c-test.true)))
-
-pub loop-c-preserved : goal.loop-c-preserved
-loop-c-preserved c = let a = c.args in
-    let l = c.loop-c in
-    l.invariant
-    ∙ rw c.tail-d.ensures
-    (bad_more (tree a.words.now) a.rules l.c.now (omega (arith, c.loop-c-test.true))
-    (sym c.is_named.ensures ∙ c.if-is_named.true))
-
-pub returns-else-is_named : goal.returns-else-is_named
-returns-else-is_named c = let a = c.args in let l = c.loop-c in
-    sym (ap not (l.invariant
-    ∙ bad_stop (tree a.words.now) a.rules l.c.now (omega (arith, c.loop-c-test.true))
-    (sym c.is_named.ensures ∙ c.if-is_named.false)))
+pub loop-candidate-preserved : goal.loop-candidate-preserved
+loop-candidate-preserved c = let l = c.loop-candidate.invariant in let s = c.in-Some.ensures.steps in (s.0 ∙ l.0, l.1 ∙ bad_more (tree_of c.args.tree) c.args.rules _ _ _ s.1.0 (rw l.0 at s.1.1) s.1.2 (sym c.is_named.ensures ∙ c.if-not-is_named.false))
 
 pub returns : goal.returns
-returns c = let a = c.args in let l = c.loop-c in
-    sym (ap not (l.invariant ∙ bad_end (tree a.words.now) a.rules l.c.now (omega (arith, c.loop-c-test.false))))
+returns c = let l = c.loop-candidate.invariant in ap not (sym (l.1 ∙ bad_end (tree_of c.args.tree) c.args.rules _ c.in-None.ensures.steps.1.0))

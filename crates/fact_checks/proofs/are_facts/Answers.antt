@@ -1,25 +1,22 @@
 -- `fact_checks::are_facts` meets its contract.
 use mathlib.Core.Path.{sym, ◌∙◌}
 use native.Mathlib.Omega.{arith}
-use lib.ListN.{length-take, length-drop}
-use Rattle.syntax.specs.Trees.{tree}
-use Rattle.syntax.proofs.PartLaws.{slice_end}
-use Rattle.fact_checks.proofs.FactLaws.{all_more, all-stop, all-last}
+use Rattle.syntax.specs.Views.{tree_of}
+use Rattle.fact_checks.proofs.FactLaws.{words_uneven, all_more, all_stop, even_more, all_end}
 use Rattle.fact_checks.proofs.are_facts.Goals as goal
 
-pub loop-c-smaller : goal.loop-c-smaller
-loop-c-smaller c = simp (length-take, length-drop) (omega (arith, c.loop-c-test.true))
+pub returns-then-words-ne0 : goal.returns-then-words-ne0
+returns-then-words-ne0 c = rw (words_uneven c.args.words.now c.if-words-ne0.true)
 
-pub loop-c-preserved : goal.loop-c-preserved
-loop-c-preserved c = let a = c.args in let l = c.loop-c in l.invariant ∙ rw (slice_end l.c.now 4) (all_more a.owner (tree a.words.now) a.bytes l.c.now
-    (omega arith) (rw (c.is_fact_part.ensures, c.is_fact.ensures) at c.if-is_fact_part-is_fact.true))
+pub returns-then-not-is_fact : goal.returns-then-not-is_fact
+returns-then-not-is_fact c = let a = c.args in let l = c.loop-part.invariant in let s = c.in-Some.ensures.steps.1 in sym (l.2 ∙ all_stop a.owner (tree_of a.tree) a.bytes _ _ _ s.0 (s.1 ∙ l.0) (sym c.is_fact.ensures ∙ c.if-not-is_fact.true))
 
-pub returns-else-is_fact_part-is_fact : goal.returns-else-is_fact_part-is_fact
-returns-else-is_fact_part-is_fact c = let a = c.args in let l = c.loop-c in sym (l.invariant ∙ all-stop a.owner (tree a.words.now) a.bytes l.c.now (omega arith) (rw
-    (c.is_fact_part.ensures, c.is_fact.ensures) at c.if-is_fact_part-is_fact.false))
+pub loop-part-preserved : goal.loop-part-preserved
+loop-part-preserved c = let a = c.args in let l = c.loop-part.invariant in let s = c.in-Some.ensures.steps in (
+  s.0 ∙ l.0,
+  even_more a.owner (tree_of a.tree) a.bytes _ _ _ s.1.0 (s.1.1 ∙ l.0) l.1,
+  l.2 ∙ all_more a.owner (tree_of a.tree) a.bytes _ _ _ s.1.0 (s.1.1 ∙ l.0) (sym c.is_fact.ensures ∙ c.if-not-is_fact.false),
+)
 
 pub returns : goal.returns
-returns c = let a = c.args in let l = c.loop-c in all-last a.owner (tree a.words.now) a.bytes l.c.now (omega (arith, c.loop-c-test.false)) ∙ sym l.invariant
-
-pub is_fact-requires : goal.is_fact-requires
-is_fact-requires c = c.requires
+returns c = let a = c.args in let l = c.loop-part.invariant in sym (l.2 ∙ all_end a.owner (tree_of a.tree) a.bytes _ (omega (arith, c.in-None.ensures.steps.1.0, l.0)))

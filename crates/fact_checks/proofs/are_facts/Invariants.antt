@@ -1,12 +1,13 @@
 -- `fact_checks::are_facts` meets its contract.
 use mathlib.Core.Path.{◌≡◌}
+use Rattle.std.specs.Slice.Iter.{chunks_exact_rest, chunks_exact_size}
+use Prim.Native.Nat.{◌%◌}
 use lib.ListN.{length}
-use Rattle.syntax.specs.Trees.{tree}
+use Rattle.syntax.specs.Views.{tree_of}
 use Rattle.facts.proofs.FactLaws.{all_facts}
 use Rattle.fact_checks.proofs.are_facts.Given as goal
 
-abbrev pub invariant-loop-c : goal.invariant-loop-c
-invariant-loop-c l = all_facts l.owner (tree l.words) l.bytes l.facts ≡ all_facts l.owner (tree l.words) l.bytes l.c
-
-abbrev pub decreases-loop-c : goal.decreases-loop-c
-decreases-loop-c l = length l.c
+abbrev pub invariant-loop-part : goal.invariant-loop-part
+invariant-loop-part l =
+    (chunks_exact_size l.part-iterator ≡ 4) × (length (chunks_exact_rest l.part-iterator) % 4 ≡ 0)
+    × (all_facts l.owner (tree_of l.tree) l.bytes l.words ≡ all_facts l.owner (tree_of l.tree) l.bytes (chunks_exact_rest l.part-iterator))

@@ -1,11 +1,9 @@
--- `job_checks::have_templates` meets its contract.
-use mathlib.Core.Path.{◌≡◌}
-use Rattle.fragments.specs.Directory.{row_count}
-use Rattle.job_checks.proofs.TemplateLaws.{any_bare}
+-- `job_checks::have_templates` meets its contract: all pairs have templates if those left have.
+use Rattle.std.proofs.Common.{◌≡◌}
+use Rattle.std.specs.List.{list_all}
+use Rattle.fragments.specs.declared.forms.Side.TheVariants.{Template}
+use Rattle.fragments.specs.Pairs.{pairs_in, is_given}
 use Rattle.job_checks.proofs.have_templates.Given as goal
 
-abbrev pub invariant-loop-n : goal.invariant-loop-n
-invariant-loop-n l = any_bare (row_count l.directory) l.directory ≡ any_bare l.n l.row
-
-abbrev pub decreases-loop-n : goal.decreases-loop-n
-decreases-loop-n l = l.n
+abbrev pub invariant-loop-pair : goal.invariant-loop-pair
+invariant-loop-pair l = list_all (is_given Template) (pairs_in l.pairs) ≡ list_all (is_given Template) l.pair-iterator

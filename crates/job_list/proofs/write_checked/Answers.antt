@@ -1,6 +1,7 @@
 -- `job_list::write_checked` meets its contract.
-use native.Mathlib.Omega.{arith}
+use Rattle.std.proofs.Common.{rules as goal_rules}
+use Rattle.job_list.proofs.ListLaws.{few_keys}
 use Rattle.job_list.proofs.write_checked.Goals as goal
 
-pub write_few-requires : goal.write_few-requires
-write_few-requires c = let p = c.requires in record { all_roomy = p.all_roomy; spare_in_bounds = p.spare_in_bounds; checked = (p.checked.0, p.checked.1, omega (arith, c.if-count_candidates-le32.true, c.count_candidates.ensures)) }
+pub write_in-requires-2 : goal.write_in-requires-2
+write_in-requires-2 g c = (search goal_rules, (search goal_rules, ((few_keys _ _ _ _ _ c.args.job.now.checked, search goal_rules), c.requires)))

@@ -1,79 +1,49 @@
--- `nester::settle` meets its contract. The loop's invariant: over the rows passed, the match has come to the place that state and slot say.
-use mathlib.Core.Path.{◌≡◌, sym, ap, subst, ◌∙◌}
-use mathlib.Core.Bool.{true}
-use Prim.Native.Nat.{ℕ, ◌-◌, ◌<◌}
-use native.Mathlib.Omega.{arith}
-use borrow.Author.Rules.{rules}
+-- `nester::settle` meets its contract.
+use Rattle.std.proofs.Common.{◌≡◌, ℕ, List, sym, ap, subst, ◌∙◌, arith}
+use Rattle.std.proofs.lemmas.Bool.{false≢true}
 use Rattle.words.specs.declared.texts.Range.{Range}
-use Rattle.syntax.specs.Trees.{size, tree, elems}
-use Rattle.syntax.proofs.Places.{tree-size}
+use Rattle.syntax.specs.Trees.{Elems, tree}
+use Rattle.syntax.specs.Accessors.{range_of, element_at, by_itself}
+use Rattle.syntax.specs.Views.{elems_of, tree_of}
+use Rattle.syntax.proofs.ViewLaws.{range_itself}
 use Rattle.nester.specs.Nest.{holder}
-use Rattle.nester.specs.Rows.{field, bindings_in, slot_of}
-use Rattle.nester.proofs.RowLaws.{Coming, met, taken, range-given, coming_from, coming_by, coming_in, settles_lost, settles}
-use Rattle.std.proofs.Common.{rules}
+use Rattle.nester.specs.Rows.{row_at}
+use Rattle.nester.proofs.Settling.{Coming, coming_from, coming_past, coming_in, settles_lost, settles}
 use Rattle.nester.proofs.settle.Goals as goal
-use Rattle.nester.proofs.settle.Goals.{then-meets+else-k-eq8, else-meets}
+use Rattle.nester.proofs.settle.Goals.{then-meets+in-Some, else-meets}
 
-pub field-node-requires : goal.field-node-requires
-field-node-requires c = let p = c.requires.candidates.few in (omega arith, omega arith)
-
-pub element-requires : goal.element-requires
-element-requires c = let k : c.field-node.result < size (tree c.args.words.now) = rw c.field-node.ensures (c.requires.candidates.known c.args.row (omega arith)) in record { well_formed = c.requires.well_formed; number_bound = omega (arith, tree-size c.args.words.now c.requires.well_formed, c.requires.well_formed.few) }
-
-pub range_of-range-requires : goal.range_of-range-requires
-range_of-range-requires c = search rules
+-- the range of an element by itself
+ranged : (l : List ℕ) (n : ℕ) (c : Elems) → c ≡ by_itself (element_at n (tree l)) → (r : Range) → r ≡ range_of c → r ≡ range_of (element_at n (tree l))
+ranged l n c e r f = f ∙ ap range_of e ∙ range_itself (element_at n (tree l))
 
 pub loop-i-init : goal.loop-i-init
-loop-i-init c = coming_from (tree c.args.words.now) c.args.rows.now c.args.row c.requires.candidates c.requires.held c.args.first c.requires.first_le_row.0 c.requires.first_le_row.1
+loop-i-init c = coming_from (tree_of c.args.tree) c.args.rows.now c.requires.candidates c.args.n c.requires.n_bound c.requires.held c.args.first c.requires.first_le_n.0 c.requires.first_le_n.1
 
-pub meets-requires : goal.meets-requires
-meets-requires c = let g = c.requires.candidates in
-    let i = c.loop-i.i in record { well_formed = c.requires.well_formed; i_bound = omega (arith, g.few, c.loop-i-test.true); i_bound_2 = g.known i (omega (arith, c.loop-i-test.true)); node_bound = rw c.field-node.ensures (g.known c.args.row (omega arith)) }
-
-pub holding-k-requires : goal.holding-k-requires
-holding-k-requires c = omega (arith, c.requires.candidates.few, c.loop-i-test.true)
-
-pub returns-then-k-eq8 : goal.returns-then-k-eq8
-returns-then-k-eq8 c = let w = c.args.words.now in
+pub returns-in-None : goal.returns-in-None
+returns-in-None c =
     let rows = c.args.rows.now in
-    let row = c.args.row in
     let l = c.loop-i in
-    let n = c.field-node.result in
-    let rg = range-given w n (field rows row 0) (elems n c.element.result.now) c.range_of-range.result (c.range_of-range.ensures n) c.element.ensures.result_value c.field-node.ensures in
-    let q : taken (tree w) rows row l.i ≡ slot_of 8 = ap (λ (r : Range). holder 0 (bindings_in rows l.i) r.start r.end) (sym rg) ∙ c.holding-k.ensures.end_value ∙ ap (λ (k : ℕ). slot_of k) c.if-k-eq8.true in
-    let e : met (tree w) rows row l.state l.slot l.i ≡ true = sym (rw c.field-node.ensures at c.meets.ensures) ∙ c.if-meets.true in
-    settles_lost (tree w) rows row c.requires.candidates c.requires.held l.i l.state l.slot c.loop-i-test.true l.invariant e q
-
-pub overflow_add-state : goal.overflow_add-state
-overflow_add-state c = omega (arith, c.requires.candidates.few, c.loop-i-test.true)
-
-pub overflow_add-i : goal.overflow_add-i
-overflow_add-i c = omega (arith, c.requires.candidates.few, c.loop-i-test.true)
-
-pub loop-i-smaller : goal.loop-i-smaller
-loop-i-smaller c = omega (arith, c.loop-i-test.true)
+    let rg = ranged c.args.tree.words.now (row_at rows c.args.n).node (elems_of c.element.result) c.element.ensures.value c.range-range.result c.range-range.ensures in
+    let q = ap (λ (r : Range). holder (row_at rows l.i).bindings r.start r.end) (sym rg) ∙ sym c.in-None.ensures.value in
+    settles_lost (tree_of c.args.tree) rows c.requires.candidates c.args.n c.requires.n_bound c.requires.held l.place l.i c.loop-i-test.true l.invariant (c.meets.ensures.0 c.if-meets.true) q
 
 pub loop-i-preserved : goal.loop-i-preserved
-loop-i-preserved c = let w = c.args.words.now in
+loop-i-preserved c =
     let rows = c.args.rows.now in
-    let row = c.args.row in
     let l = c.loop-i in
-    let n = c.field-node.result in
-    let lt = c.loop-i-test.true in
-    let rg = range-given w n (field rows row 0) (elems n c.element.result.now) c.range_of-range.result (c.range_of-range.ensures n) c.element.ensures.result_value c.field-node.ensures in
-    let m : c.meets.result ≡ met (tree w) rows row l.state l.slot l.i = rw c.field-node.ensures at c.meets.ensures in
+    let rg = ranged c.args.tree.words.now (row_at rows c.args.n).node (elems_of c.element.result) c.element.ensures.value c.range-range.result c.range-range.ensures in
     elim c.if-meets.branch [
-      | then-meets+else-k-eq8 w ↦ (
-          let q : taken (tree c.args.words.now) rows row l.i ≡ slot_of w.holding-k.result = ap (λ (r : Range). holder 0 (bindings_in rows l.i) r.start r.end) (sym rg) ∙ w.holding-k.ensures.end_value in
-          let o = coming_in (tree c.args.words.now) rows row c.requires.candidates c.requires.held l.i l.state l.slot w.holding-k.result lt l.invariant (sym m ∙ w.if-meets.true) (omega (arith, w.holding-k.ensures.upper_bound, w.if-k-eq8.false)) q in
-          rw (w.state-is, w.slot-is) o)
-      | else-meets w ↦ (
-          let o = coming_by (tree c.args.words.now) rows row c.requires.candidates c.requires.held l.i l.state l.slot lt l.invariant (sym m ∙ w.if-meets.false) in rw (w.state-is, w.slot-is) o)
+      | then-meets+in-Some w' ↦ (
+          let q = ap (λ (r : Range). holder (row_at rows l.i).bindings r.start r.end) (sym rg) ∙ sym w'.in-Some.ensures.value in
+          rw w'.place-is (coming_in (tree_of c.args.tree) rows c.requires.candidates c.args.n c.requires.n_bound c.requires.held l.place l.i c.loop-i-test.true l.invariant w'.in-Some.slot (c.meets.ensures.0 w'.if-meets.true) q))
+      | else-meets w' ↦ (
+          rw w'.place-is (coming_past (tree_of c.args.tree) rows c.requires.candidates c.args.n c.requires.n_bound c.requires.held l.place l.i c.loop-i-test.true l.invariant (λ m. false≢true (sym w'.if-meets.false ∙ c.meets.ensures.1 m))))
     ]
 
 pub returns : goal.returns
-returns c = let l = c.loop-i in
-    let row = c.args.row in
-    let w = tree c.args.words.now in
-    let e : l.i ≡ row = omega (arith, l.invariant.until, c.loop-i-test.false) in
-    settles w c.args.rows.now row c.requires.candidates c.requires.held l.state l.slot (subst (λ (i : ℕ). Coming w c.args.rows.now row l.state l.slot i) e l.invariant)
+returns c =
+    let l = c.loop-i in
+    let rows = c.args.rows.now in
+    let e : l.i ≡ c.args.n = omega (arith, l.auto.i-end c.requires.first_le_n.0, c.loop-i-test.false) in
+    settles (tree_of c.args.tree) rows c.requires.candidates c.args.n c.requires.n_bound c.requires.held l.place
+    (subst (λ (i : ℕ). Coming (tree_of c.args.tree) rows c.args.n l.place i) e l.invariant)

@@ -1,37 +1,19 @@
 -- `parentheses::put_part` meets its contract.
-use Prim.Native.Nat.{◌≤◌}
-use native.Mathlib.Omega.{arith}
-use lib.ListN.{length-set}
-use Rattle.parentheses.proofs.WrapLaws.{two-more, put-plain, put-marked}
+use Rattle.std.proofs.Common.{◌≡◌, true, refl, ◌∙◌, ◌+◌, ◌-◌, ◌≤◌, arith, length, take, drop}
+use Rattle.words.specs.Buffer.{laid}
+use Rattle.parentheses.proofs.LaidLaws.{length_bytes, two_stores}
 use Rattle.parentheses.proofs.put_part.Goals as goal
-use Rattle.parentheses.proofs.put_part.Goals.{Then-mark-eq1}
-
--- a marked part has two bytes more
-enough : (c : Then-mark-eq1) → 2 ≤ c.args.g
-enough c = two-more c.args.mark c.args.g c.if-mark-eq1.true c.requires.1
-
-pub returns-then-mark-eq1 : goal.returns-then-mark-eq1
-returns-then-mark-eq1 c = let a = c.args in
-    rw c.shift.ensures (put-marked a.out.now a.y a.n a.g a.mark c.requires.0 c.if-mark-eq1.true c.requires.1)
 
 pub returns : goal.returns
-returns c = let a = c.args in
-    put-plain a.out.now _ a.y a.n a.g a.mark c.if-mark-eq1.false c.shift-2.ensures
-
-pub overflow_sub-g : goal.overflow_sub-g
-overflow_sub-g c = omega (arith, enough (goal.at.overflow_sub-g c).Then-mark-eq1)
-
-pub overflow_sub-out : goal.overflow_sub-out
-overflow_sub-out c = omega (arith, enough (goal.at.overflow_sub-out c).Then-mark-eq1)
-
-pub bounds-out-y : goal.bounds-out-y
-bounds-out-y c = omega (arith, enough (goal.at.bounds-out-y c).Then-mark-eq1)
-
-pub overflow_sub-out-then-mark-eq1 : goal.overflow_sub-out-then-mark-eq1
-overflow_sub-out-then-mark-eq1 c = omega (arith, enough (goal.at.overflow_sub-out-then-mark-eq1 c).Then-mark-eq1)
-
-pub bounds-out-y-then-mark-eq1 : goal.bounds-out-y-then-mark-eq1
-bounds-out-y-then-mark-eq1 c = simp length-set (omega (arith, enough (goal.at.bounds-out-y-then-mark-eq1 c).Then-mark-eq1))
-
-pub overflow_sub-result : goal.overflow_sub-result
-overflow_sub-result c = omega (arith, enough (goal.at.overflow_sub-result c).Then-mark-eq1)
+returns c =
+    let a = c.args in
+    let d = a.out.now in
+    let s = a.end - a.n - 2 in
+    let t = take a.n (drop a.from d) in
+    let m : a.is_enclosed ≡ true = c.if-not-is_enclosed.false in
+    let room : a.from + a.n + 2 ≤ a.end = rw m at c.requires.0 in
+    let l : length t ≡ a.n = length_bytes a.from a.n d (omega arith) in
+    let k : a.from + a.n - a.from ≡ a.n = omega arith in
+    let moved : c.copy_within-2.new.self ≡ laid d (s + 1) t = c.copy_within-2.ensures.after ∙ rw (k, l) refl in
+    let last : a.end - 1 ≡ s + 1 + length t = omega arith in
+    rw m (omega arith, rw (moved, last) (two_stores d t s 40 41 (omega arith)))

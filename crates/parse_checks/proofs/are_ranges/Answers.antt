@@ -1,22 +1,18 @@
 -- `parse_checks::are_ranges` meets its contract.
-use mathlib.Core.Path.{sym, ◌∙◌}
-use native.Mathlib.Omega.{arith}
-use lib.ListN.{length-drop}
-use Rattle.parse_checks.proofs.RangeLaws.{are_step, are_last}
+use Rattle.std.proofs.Common.{◌≡◌, sym, ◌∙◌, rules, arith, ◌%◌, length}
+use borrow.Author.Tests.{tests}
+use Rattle.std.proofs.lemmas.Iterator.{YieldsList-from_slice}
+use Rattle.std.proofs.lemmas.Iterator.Search.{all_from_yields_List}
+use Rattle.parses.specs.Ranges.{is_range}
+use Rattle.parse_checks.proofs.RangeLaws.{ranges_even}
 use Rattle.parse_checks.proofs.are_ranges.Goals as goal
+use Rattle.parse_checks.proofs.are_ranges.Goals.{After-all}
 
-pub loop-c-smaller : goal.loop-c-smaller
-loop-c-smaller c = let l = c.loop-c in
-    rw c.tail-d.ensures (omega (arith, c.loop-c-test.true, length-drop 2 l.c.now))
+-- no word is left over
+even : (c : After-all) → length c.args.words.now % 2 ≡ 0
+even c = let e : length c.as_chunks.result.1.now ≡ 0 = search (rules, tests) in omega (arith, e, c.as_chunks.ensures.back_len)
 
-pub loop-c-preserved : goal.loop-c-preserved
-loop-c-preserved c = let l = c.loop-c in let n = c.args.n in
-    l.invariant ∙ are_step n l.c.now c.loop-c-test.true ∙ rw (← c.is_range.ensures, c.if-is_range.true, c.tail-d.ensures)
-
-pub returns-else-is_range : goal.returns-else-is_range
-returns-else-is_range c = let l = c.loop-c in let n = c.args.n in
-    sym (l.invariant ∙ are_step n l.c.now c.loop-c-test.true ∙ rw (← c.is_range.ensures, c.if-is_range.false))
-
-pub returns : goal.returns
-returns c = let l = c.loop-c in let n = c.args.n in
-    are_last n l.c.now c.loop-c-test.false ∙ sym l.invariant
+pub returns-then-is_empty : goal.returns-then-is_empty
+returns-then-is_empty c =
+    all_from_yields_List (is_range c.args.n) _ _ c.all.result c.all.ensures.ran (YieldsList-from_slice c.as_chunks.result.0.now cc) (λ x b q k. search (rules, tests))
+    ∙ rw c.as_chunks.ensures.front (sym (ranges_even c.args.n c.args.words.now (even c)))

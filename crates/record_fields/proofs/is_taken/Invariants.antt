@@ -1,13 +1,9 @@
--- `record_fields::is_taken` meets its contract: what is left has the answer of the whole.
+-- `record_fields::is_taken` meets its contract.
 use mathlib.Core.Path.{◌≡◌}
-use Prim.Native.Nat.{ℕ, ◌+◌, ◌*◌}
-use lib.ListN.{length}
-use Rattle.syntax.specs.Trees.{elems}
+use Rattle.syntax.specs.Views.{elems_of}
+use Rattle.matcher.specs.Matcher.{matcher_of}
 use Rattle.record_fields.specs.Fields.{is_taken}
 use Rattle.record_fields.proofs.is_taken.Given as goal
 
-abbrev pub invariant-loop-at : goal.invariant-loop-at
-invariant-loop-at l = (l.at * 3 + length l.q ≡ length l.part) × ((i : ℕ) → is_taken l.rule (i + l.elements) l.kind l.name (elems i l.part) ≡ is_taken l.rule (i + l.elements) l.kind l.name (elems (i + l.at) l.q))
-
-abbrev pub decreases-loop-at : goal.decreases-loop-at
-decreases-loop-at l = length l.q
+abbrev pub invariant-loop-q : goal.invariant-loop-q
+invariant-loop-q l = let taken = is_taken (matcher_of l.x) l.number l.name.kind l.name.text.now in taken (elems_of l.q-iterator) ≡ taken (elems_of l.part)

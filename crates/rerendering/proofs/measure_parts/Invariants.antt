@@ -1,12 +1,11 @@
--- `rerendering::measure_parts` meets its contract: the words up to i are those of the fragments up to i.
+-- `rerendering::measure_parts` meets its contract: the parts up to i are those of the fragments up to i.
 use mathlib.Core.Path.{◌≡◌}
-use Prim.Native.Nat.{◌-◌, ◌≤◌}
 use lib.ListN.{length, take}
-use Rattle.rerendering.specs.Parts.{part_words}
+use Rattle.parentheses.specs.Parts.{parts_of}
+use Rattle.rerendering.specs.Parts.{measured_parts}
 use Rattle.rerendering.proofs.measure_parts.Given as goal
 
 abbrev pub invariant-loop-i : goal.invariant-loop-i
-invariant-loop-i l = (l.i ≤ length l.table) × (length l.parts ≡ length l.table) × (take l.i l.parts ≡ part_words l.rows l.frames l.k l.code l.fact_text (take l.i l.table))
-
-abbrev pub decreases-loop-i : goal.decreases-loop-i
-decreases-loop-i l = length l.table - l.i
+invariant-loop-i g l =
+    (length l.parts ≡ length (g.T.Template.fragments l.template))
+    × (parts_of (take l.i l.parts) ≡ measured_parts l.bindings l.frame (take l.i (g.T.Template.fragments l.template)))

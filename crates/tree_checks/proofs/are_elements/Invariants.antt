@@ -1,6 +1,5 @@
 -- `tree_checks::are_elements` meets its contract.
-use mathlib.Core.Path.{◌≡◌}
-use lib.ListN.{length}
+use Rattle.std.proofs.Common.{◌≡◌, length}
 use Rattle.syntax.specs.Rows.{every}
 use Rattle.tree_checks.proofs.are_elements.Given as goal
 

@@ -1,7 +1,5 @@
 -- `tree_checks::are_in_row` meets its contract.
-use mathlib.Core.Path.{◌≡◌}
-use Prim.Native.Nat.{◌-◌}
-use lib.ListN.{length}
+use Rattle.std.proofs.Common.{◌≡◌, length}
 use Rattle.syntax.specs.Rows.{in_row}
 use Rattle.tree_checks.proofs.are_in_row.Given as goal
 

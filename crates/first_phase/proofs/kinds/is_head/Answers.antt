@@ -1,4 +1,4 @@
--- `first_phase::kinds::is_head` meets its contract.
+-- Both differences are of numbers in order, so that nothing wraps.
 use Rattle.std.proofs.Common.{arith, le-leb}
 use Rattle.first_phase.proofs.kinds.is_head.Goals as goal
 

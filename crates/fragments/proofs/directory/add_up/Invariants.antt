@@ -1,11 +1,12 @@
 -- `fragments::directory::add_up` meets its contract.
-use mathlib.Core.Path.{◌≡◌}
-use Prim.Native.Nat.{◌-◌}
+use Rattle.std.proofs.Common.{◌≡◌}
+use Rattle.std.specs.Slice.Iter.{chunks_exact_rest, chunks_exact_size}
 use Rattle.fragments.specs.Directory.{row_count, add_up}
 use Rattle.fragments.proofs.directory.add_up.Given as goal
 
-abbrev pub invariant-loop-n : goal.invariant-loop-n
-invariant-loop-n l = add_up (row_count l.directory) l.directory l.words l.bytes ≡ add_up l.n l.row l.words_left l.bytes_left
-
-abbrev pub decreases-loop-n : goal.decreases-loop-n
-decreases-loop-n l = l.n
+abbrev pub invariant-loop-row : goal.invariant-loop-row
+invariant-loop-row l =
+    record {
+      left : add_up (row_count l.directory) l.directory l.words l.bytes ≡ add_up (row_count (chunks_exact_rest l.row-iterator)) (chunks_exact_rest l.row-iterator) l.left.0 l.left.1;
+      size : chunks_exact_size l.row-iterator ≡ 27;
+    }

@@ -1,36 +1,33 @@
 -- `job::checking::check_job` meets its contract.
-use mathlib.Core.Path.{sym, ◌∙◌}
-use Rattle.errors.proofs.Laws.{refused_not}
-use Rattle.checks.specs.Given.{file_of}
-use Rattle.resolved.proofs.ResolvedLaws.{forms_passed}
-use Rattle.job_checks.specs.Checks.{job_of, rules_in}
-use Rattle.job.proofs.CheckingLaws.{checks_refuse, checks_asked, job_checked}
+use mathlib.Core.Path.{◌∙◌}
+use Rattle.std.proofs.Common.{rules as goal_rules}
+use Rattle.job_checks.specs.Checks.{job_in}
+use Rattle.job.proofs.CheckingLaws.{checks_refuse, forms_pass, asked_decides, asked_passes}
 use Rattle.job.proofs.checking.check_job.Goals as goal
 
-pub check_asked-requires : goal.check_asked-requires
-check_asked-requires c = let a = c.args in
-    let f = file_of a.tree.now a.text.now a.facts.now in
-    let j =
-    job_of a.directory.now a.words.now a.bytes.now a.fact_text.now f
-    a.parses.now a.parse_text.now a.candidates.now a.range in
-    let e = c.in-Ok.is in record { well_formed = ((c.check_and_resolve.ensures.well_formed e).0, forms_passed (rules_in j) f (sym c.check_and_resolve.ensures.value ∙ e)); in_bounds = c.requires.in_bounds }
+pub returns-in_err-accepted-clause-value : goal.returns-in_err-accepted-clause-value
+returns-in_err-accepted-clause-value g c =
+    let k = checks_refuse (job_in c.args.given) _ c.rules-rules.ensures _ c.in_err-accepted.ensures.value in search (goal_rules, k)
 
-pub returns-in-Ok : goal.returns-in-Ok
-returns-in-Ok c = let a = c.args in
-    let f = file_of a.tree.now a.text.now a.facts.now in
-    let j =
-    job_of a.directory.now a.words.now a.bytes.now a.fact_text.now f
-    a.parses.now a.parse_text.now a.candidates.now a.range in
-    let e = c.in-Ok.is in
-    let h = sym c.check_and_resolve.ensures.value ∙ e in record {
-      value = c.check_asked.ensures.value ∙ checks_asked j h;
-      checked = λ g. job_checked j h _ _ (c.check_and_resolve.ensures.well_formed e)
-          (sym c.check_asked.ensures.value ∙ g) (c.check_asked.ensures.parses_value g);
-    }
+pub returns-in_err-asked-clause-value : goal.returns-in_err-asked-clause-value
+returns-in_err-asked-clause-value g c =
+    let k = asked_decides (job_in c.args.given) _ c.rules-rules.ensures c.in_ok-accepted.ensures.value _ c.in_err-asked.ensures.value in search (goal_rules, k)
 
-pub returns-in-Err : goal.returns-in-Err
-returns-in-Err c = let a = c.args in
-    let f = file_of a.tree.now a.text.now a.facts.now in
-    let j =
-    job_of a.directory.now a.words.now a.bytes.now a.fact_text.now f
-    a.parses.now a.parse_text.now a.candidates.now a.range in record { value = checks_refuse j _ (sym c.check_and_resolve.ensures.value ∙ c.in-Err.is); checked = λ e. absurd (refused_not e) }
+pub check_asked-requires-clause-passed : goal.check_asked-requires-clause-passed
+check_asked-requires-clause-passed g c = forms_pass (job_in c.args.given) _ c.rules-rules.ensures c.in_ok-accepted.ensures.value
+
+pub new-requires : goal.new-requires
+new-requires g c = (
+  search goal_rules,
+  (
+    search goal_rules,
+    (
+      asked_passes (job_in c.args.given) _ c.rules-rules.ensures c.in_ok-accepted.ensures.value c.in_ok-asked.ensures.value,
+      (c.in_ok-accepted.ensures.given.0 ∙ c.rules-rules.ensures, (c.in_ok-accepted.ensures.given.1, c.in_ok-asked.ensures.listed)),
+    ),
+  ),
+)
+
+pub returns-clause-value : goal.returns-clause-value
+returns-clause-value g c =
+    asked_decides (job_in c.args.given) _ c.rules-rules.ensures c.in_ok-accepted.ensures.value _ c.in_ok-asked.ensures.value

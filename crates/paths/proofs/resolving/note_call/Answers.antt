@@ -1,22 +1,16 @@
--- `paths::resolving::note_call` meets its contract.
-use mathlib.Core.Path.{refl}
-use native.Mathlib.Omega.{arith}
-use lib.Dec.{ltb}
-use lib.ListN.{length-set}
-use borrow.Author.Tests.{ltb-true}
-use Rattle.words.proofs.TestLaws.{and_both}
-use Rattle.paths.specs.Steps.{is_associated}
-use Rattle.paths.proofs.StepLaws.{claim_noted, claim_none}
+-- `note_call` meets its contract.
+use Rattle.std.proofs.Common.{sym, ◌∙◌, None}
+use Rattle.paths.specs.Tables.{calls_of}
+use Rattle.paths.proofs.TableLaws.{call_set}
+use Rattle.paths.proofs.WalkLaws.{claim_noted, claim_other, claim_none}
 use Rattle.paths.proofs.resolving.note_call.Goals as goal
 
-pub overflow_sub-calls : goal.overflow_sub-calls
-overflow_sub-calls c = let a = c.args in omega (arith, ltb-true 0 a.call (and_both (is_associated a.flags) (ltb 0 a.call) c.if-flags-call.true).1)
+pub returns-then-flags-eq1-clause-calls_after : goal.returns-then-flags-eq1-clause-calls_after
+returns-then-flags-eq1-clause-calls_after c = λ g e. let a = c.args in
+    call_set a.notes.now c.in-Some.call _ (record { path = None; call = None }) ∙ claim_noted a.path a.flags c.in-Some.call (calls_of a.notes.now) g c.if-flags-eq1.true (sym c.in-Some.is ∙ e)
 
-pub bounds-calls-call : goal.bounds-calls-call
-bounds-calls-call c = let a = c.args in omega (arith, ltb-true 0 a.call (and_both (is_associated a.flags) (ltb 0 a.call) c.if-flags-call.true).1)
+pub returns-else-flags-eq1-clause-calls_after : goal.returns-else-flags-eq1-clause-calls_after
+returns-else-flags-eq1-clause-calls_after c = λ g e. let a = c.args in claim_other a.path a.flags 0 (calls_of a.notes.now) g c.if-flags-eq1.false
 
-pub returns-then-flags-call : goal.returns-then-flags-call
-returns-then-flags-call c = let a = c.args in record { calls_len_unchanged = simp length-set; calls_after = λ g e. claim_noted a.path a.flags a.call a.calls.now g e c.if-flags-call.true }
-
-pub returns-else-flags-call : goal.returns-else-flags-call
-returns-else-flags-call c = let a = c.args in record { calls_len_unchanged = refl; calls_after = λ g e. claim_none a.path a.flags a.call a.calls.now g e c.if-flags-call.false }
+pub returns-in_default-clause-calls_after : goal.returns-in_default-clause-calls_after
+returns-in_default-clause-calls_after c = λ g e. let a = c.args in claim_none a.path a.flags 0 (calls_of a.notes.now) g (sym c.in_default.is ∙ e)

@@ -1,41 +1,28 @@
--- `prepared::limits::limits_of` meets its contract.
-use mathlib.Core.Path.{◌≡◌, refl}
-use mathlib.Core.List.{[]}
-use Prim.Native.Nat.{◌-◌}
-use native.Mathlib.Omega.{arith}
-use lib.ListN.{length, length-set}
-use Rattle.parsing.proofs.PatternLaws.{count_of}
-use Rattle.prepared.proofs.LimitLaws.{passed_none, passed_more, limited}
-use Rattle.prepared.proofs.limits.limits_of.Goals.{Start}
+-- `limits_of` meets its contract.
+use Rattle.std.proofs.Common.{refl, ap, ◌∙◌, length, arith}
+use lib.ListN.{length-set}
+use Rattle.prepared.specs.Rules.{limit_of}
+use Rattle.prepared.proofs.LimitLaws.{laid_none, laid_more, limited}
 use Rattle.prepared.proofs.limits.limits_of.Goals as goal
 
-fifty : (c : Start) → length c.args.pattern.nots ≡ 50
-fifty c = c.well_formed.0.1.1.1.1.0.1.0.1
-
 pub loop-slot-init : goal.loop-slot-init
-loop-slot-init c = (omega arith, omega arith, refl, refl, λ vs q. passed_none vs _ _)
-
-pub has_remainder-requires : goal.has_remainder-requires
-has_remainder-requires c = (fifty (goal.at.has_remainder-requires c).Start, c.end_of-end.ensures.1)
-
-pub has_remainder-requires-in-loop-slot : goal.has_remainder-requires-in-loop-slot
-has_remainder-requires-in-loop-slot c = (fifty (goal.at.has_remainder-requires-in-loop-slot c).Start, c.end_of-end.ensures.1)
+loop-slot-init c = record { long = refl; laid = laid_none c.args.pattern.now.placeholders.items }
 
 pub loop-slot-preserved : goal.loop-slot-preserved
-loop-slot-preserved c = let l = c.loop-slot in (
-  omega arith,
-  c.end_of-end.ensures.1,
-  simp length-set l.invariant.2,
-  simp length-set l.invariant.3,
-  λ vs q.
-      passed_more c.args.pattern vs q (fifty (goal.at.loop-slot-preserved c).Start) l.slot l.at c.end_of-end.result l.literal l.other (omega arith) (omega arith)
-      c.end_of-end.ensures.2 _ _ c.has_remainder.ensures c.has_remainder-in-loop-slot.ensures (l.invariant.4 vs q),
-)
+loop-slot-preserved c =
+    let l = c.loop-slot in
+    let e = c.as_slice-placeholder-items.ensures in
+    let n = ap length e.value in
+    record {
+      long = length-set l.limits l.slot c.limit_of.result ∙ l.invariant.long;
+      laid = laid_more c.args.pattern.now.placeholders.items l.slot l.limits c.placeholder-item.result c.limit_of.result
+          (omega (arith, l.invariant.long, c.loop-slot-test.true, e.fits)) (omega (arith, n, c.loop-slot-test.true))
+          (rw e.value at c.placeholder-item.is) (c.limit_of.ensures ∙ ap limit_of c.as_slice.ensures.value) l.invariant.laid;
+    }
 
 pub returns : goal.returns
-returns c = let l = c.loop-slot in let e : l.slot ≡ 8 = omega arith in λ vs text code facts q. limited vs (omega (
-  arith,
-  count_of c.args.pattern
-      vs [] q,
-  c.requires.few,
-)) text code facts c.args.sheet _ l.at refl l.invariant.2 l.invariant.3 (rw e at (l.invariant.4 vs q))
+returns c =
+    let l = c.loop-slot in
+    let e = c.as_slice-placeholder-items.ensures in
+    let n = ap length e.value in
+    limited c.args.pattern.now.placeholders.items l.slot l.limits (omega (arith, n, e.fits)) l.invariant.long (omega (arith, n, l.auto.slot-end, c.loop-slot-test.false)) l.invariant.laid

@@ -1,13 +1,7 @@
--- `readying::telling::tell_paths` meets its contract. The pieces passed are told.
-use mathlib.Core.Path.{◌≡◌}
-use Prim.Native.Nat.{◌-◌, ◌≤◌}
-use lib.ListN.{length}
-use Rattle.readying.specs.Ready.{told_in}
-use Rattle.readying.proofs.TellingLaws.{told_up_to}
+-- `readying::telling::tell_paths` meets its contract: the pieces passed are told.
+use Rattle.std.proofs.Common.{◌≡◌, map, ◌++◌, take, drop}
+use Rattle.readying.specs.Ready.{told}
 use Rattle.readying.proofs.telling.tell_paths.Given as goal
 
-abbrev pub invariant-loop-i : goal.invariant-loop-i
-invariant-loop-i l = (l.i ≤ length l.pieces) × (length l.pieces ≡ length l.initial.pieces) × (l.pieces ≡ told_up_to (told_in l.facts l.module) l.initial.pieces l.i)
-
-abbrev pub decreases-loop-i : goal.decreases-loop-i
-decreases-loop-i l = length l.pieces - l.i
+abbrev pub invariant-loop-piece : goal.invariant-loop-piece
+invariant-loop-piece l = l.pieces ≡ map (told l.facts l.module) (take l.piece-index l.initial.pieces) ++ drop l.piece-index l.initial.pieces

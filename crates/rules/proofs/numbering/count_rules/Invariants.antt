@@ -1,14 +1,8 @@
--- `rules::numbering::count_rules` meets its contract.
-use Prim.Native.Nat.{◌-◌, ◌+◌, ◌*◌, ◌≤◌}
-use mathlib.Core.Path.{◌≡◌}
-use lib.ListN.{length}
-use Rattle.fragments.specs.Directory.{row_count}
-use Rattle.fragments.specs.Pairs.{pairs_of, pairs}
-use Rattle.rules.specs.Numbering.{rules}
+-- `rules::numbering::count_rules` meets its contract: what is counted and what is left are all rules.
+use Rattle.std.proofs.Common.{◌≡◌, length, ◌+◌, ◌*◌, ◌<◌}
+use Rattle.fragments.specs.Pairs.{pairs_in}
+use Rattle.rules.specs.Numbering.{rules, rules_from}
 use Rattle.rules.proofs.numbering.count_rules.Given as goal
 
-abbrev pub invariant-loop-n : goal.invariant-loop-n
-invariant-loop-n l = (length (rules (pairs l.directory l.words l.bytes)) ≡ l.count + length (rules (pairs_of l.n l.row l.w l.b))) × (l.count + 5 * l.n ≤ 5 * row_count l.directory)
-
-abbrev pub decreases-loop-n : goal.decreases-loop-n
-decreases-loop-n l = l.n
+abbrev pub invariant-loop-pair : goal.invariant-loop-pair
+invariant-loop-pair l = (l.count + length (rules_from 0 l.pair-iterator) ≡ length (rules (pairs_in l.pairs))) × (l.count + 5 * length l.pair-iterator < 18446744073709551616)

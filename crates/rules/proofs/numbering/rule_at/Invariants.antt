@@ -1,12 +1,10 @@
--- `rules::numbering::rule_at` meets its contract.
-use Prim.Native.Nat.{◌-◌, ◌≤◌}
-use mathlib.Core.Path.{◌≡◌}
-use Rattle.fragments.specs.Pairs.{pairs_of, pairs}
-use Rattle.rules.specs.Numbering.{rules, rules_from, rule_at}
+-- `rules::numbering::rule_at` meets its contract: among the pairs left the rule has the number that is left.
+use Rattle.std.proofs.Common.{◌≡◌, length, ◌+◌, ◌<◌, slice_get}
+use Prim.Native.Nat.{◌^◌}
+use Rattle.fragments.specs.Pairs.{pairs_in}
+use Rattle.rules.specs.Numbering.{rules, rules_from}
 use Rattle.rules.proofs.numbering.rule_at.Given as goal
 
-abbrev pub invariant-loop-pair : goal.invariant-loop-pair
-invariant-loop-pair l = (rule_at (rules (pairs l.directory l.words l.bytes)) l.number ≡ rule_at (rules_from l.pair (pairs_of (l.n - l.pair) l.row l.w l.b)) l.left) × (l.pair ≤ l.n)
-
-abbrev pub decreases-loop-pair : goal.decreases-loop-pair
-decreases-loop-pair l = l.n - l.pair
+abbrev pub invariant-loop-n : goal.invariant-loop-n
+invariant-loop-n l =
+    (l.n + length l.pair-iterator < 2 ^ 64) × (slice_get (rules_from l.n l.pair-iterator) l.left ≡ slice_get (rules (pairs_in l.pairs)) l.number)

@@ -1,0 +1,2 @@
+-- Laws of the list of a job that passed its checks.
+mod ListLaws

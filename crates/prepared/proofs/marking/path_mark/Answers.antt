@@ -1,9 +1,0 @@
--- `prepared::marking::path_mark` meets its contract.
-use Rattle.prepared.proofs.MarkLaws.{path-noted}
-use Rattle.prepared.proofs.marking.path_mark.Goals as goal
-
-pub returns-then-noted-eq0 : goal.returns-then-noted-eq0
-returns-then-noted-eq0 c = rw (← c.word-noted.ensures, c.if-noted-eq0.true)
-
-pub returns : goal.returns
-returns c = rw (c.value.ensures, ← c.word-noted.ensures) (path-noted c.args.facts.now c.word-noted.result c.if-noted-eq0.false)
