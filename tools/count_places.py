@@ -34,7 +34,7 @@ SOURCES = {n: t for n, t in FILES.items() if re.match(r'crates/[^/]+/src/.*\.rt$
 EDGE = ('crates/cases/', 'crates/limits/', 'crates/replay/', 'crates/ssr_c/')
 LIBRARY = {n: t for n, t in SOURCES.items() if not n.startswith(EDGE)}
 
-FN = re.compile(r'((?:^[ \t]*//[^\n]*\n|^[ \t]*#\[[^\n]*\n)*)^([ \t]*)((?:pub )?(?:extern "C" )?fn (\w+)[^{;]*?)\n?((?:\2[ \t]+(?:requires|ensures)[^\n]*\n(?:\2[ \t]{5,}[^\n]*\n)*)*)\2\{\n(.*?)^\2\}', re.M | re.S)
+FN = re.compile(r'((?:^[ \t]*//[^\n]*\n|^[ \t]*#\[[^\n]*\n)*)^([ \t]*)((?:pub )?(?:extern "C" )?fn (\w+)(?:[^{;\[]|\[[^\]]*\])*?)\n?((?:\2[ \t]+(?:requires|ensures)[^\n]*\n(?:\2[ \t]{5,}[^\n]*\n)*)*)\2\{\n(.*?)^\2\}', re.M | re.S)
 ITEM = re.compile(r'^[ \t]*(?:pub )?(enum|struct) (\w+)[^{;]*\{(.*?)^[ \t]*\}', re.M | re.S)
 
 

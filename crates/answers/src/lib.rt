@@ -1,7 +1,7 @@
 // The answer of matching one node, and the buffer then.
 #![tactic(auto)]
 
-ghost use Rattle.std.specs.Prelude.{◌≡◌, List, [], ℕ, ◌≤◌, length};
+ghost use Rattle.std.specs.Prelude.{◌≡◌, List, ℕ, ◌≤◌, length};
 ghost use Rattle.words.specs.Buffer.{filled};
 ghost use Rattle.captures.specs.Attempts.{Attempt};
 ghost use Rattle.captures.specs.Effects.{nothing, Gives};
@@ -18,15 +18,6 @@ pub struct NodeMatch {
     pub bindings: [Option<Binding>; 8],
 }
 
-// A refusal, which leaves the buffer all 0.
-pub fn refuse(refusal: Refusal, out: &mut [u8]) -> Result<Option<NodeMatch>, Refusal>
-    ensures value { result ≡ Err refusal }
-    ensures out_after { out.new ≡ filled out.old [] }
-{
-    buffer::finish(out, 0);
-    Err(refusal)
-}
-
 // The answer of an attempt that was made with this buffer.
 pub fn answer(state: Option<State>, out: &mut [u8]) -> Result<Option<NodeMatch>, Refusal>
     requires { length out.old ≤ 1048576 }
@@ -38,7 +29,7 @@ pub fn answer(state: Option<State>, out: &mut [u8]) -> Result<Option<NodeMatch>,
         return Ok(None);
     };
     if out.len() < state.noted {
-        return refuse(Refusal::DoesNotFit, out);
+        return errors::refuse(Refusal::DoesNotFit, out);
     }
     buffer::finish(out, state.noted);
     let bindings = state.bindings;

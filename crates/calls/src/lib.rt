@@ -43,10 +43,7 @@ pub fn same_resolution(x: &Matcher, p: Part, c: Part) -> bool
 pub fn same_function(x: &Matcher, p: Part, c: Part) -> bool
     ensures { result ≡ same_function (matcher_of x.now) (elems_of p.entry) (elems_of c.entry) }
 {
-    let function = match x.call_at(number_of(p)) {
-        Some(call) => call.function,
-        None => 0,
-    };
+    let function = x.call_at(number_of(p)).map_or(0, |call| call.function);
     x.calls_function(number_of(c), function)
 }
 

@@ -1,7 +1,7 @@
 -- What the loops over candidates and over keys rest on.
 -- Assumes nothing.
-use mathlib.Core.Path.{◌≡◌, refl, sym, ◌∙◌}
-use mathlib.Core.Bool.{Bool, true, false, or-true}
+use mathlib.Core.Path.{◌≡◌, refl, sym, ap, ◌∙◌}
+use mathlib.Core.Bool.{Bool, true, false, not, ◌&&◌, ◌||◌, or-true}
 use mathlib.Core.List.{List, [], ◌∷◌, ◌++◌, append_assoc, append-nil}
 use Prim.Native.Nat.{ℕ, zero, suc, min, ◌+◌, ◌*◌, ◌<◌, ◌≤◌}
 use native.Mathlib.Omega.{arith}
@@ -9,8 +9,13 @@ use native.Mathlib.Numerals.{add-one}
 use lib.ListN.{length, get_or, take, drop, set, length-drop}
 use lib.Seq.{drop-drop, take-suc-set, take_all}
 use borrow.Author.Tests.{eq-eqb, ne_eqb}
+use Rattle.std.specs.List.{list_all}
+use Rattle.std.specs.declared.slice.Chunks.{Chunks}
+use Rattle.std.specs.Slice.Iter.{chunks_rest, chunks_size, chunks_steps}
+use Rattle.std.proofs.lemmas.Iterator.{YieldsList}
+use Rattle.std.proofs.lemmas.Iterator.Splits.{YieldsList-from_shown_while}
 use Rattle.syntax.specs.Trees.{Elems}
-use Rattle.candidates.specs.Candidates.{candidate_at, candidates_of, is_named, any_bad, key_of, keys_of, is_first, has_equal_neighbours}
+use Rattle.candidates.specs.Candidates.{Candidate, candidate_at, candidates_of, is_named, any_bad, key_of, keys_of, is_first, has_equal_neighbours}
 use Rattle.candidates.proofs.CandidateLaws.{candidates_cons, candidates_none}
 
 -- ---- laying keys
@@ -69,18 +74,18 @@ chunk_first (a ∷ []) (b ∷ r) n h = absurd (omega arith)
 chunk_first (a ∷ (b ∷ [])) r n h = refl
 chunk_first (a ∷ (b ∷ (c ∷ x))) r n h = absurd (omega arith)
 
-module _ (t : Elems) (rules : ℕ) (l x r : List ℕ) (e : l ≡ x ++ r) (n : length x ≡ min 2 (length l)) (h : 0 < length l) where
-  first : candidates_of l ≡ candidate_at x ∷ candidates_of r
-  first = rw e (chunk_first x r (rw e at n) (rw e at h))
+-- chunks of two are the candidates
+pub chunks_candidates : (s : Chunks ℕ) → chunks_size s ≡ 2 → YieldsList chunks_steps (λ x. candidate_at x.now) s (candidates_of (chunks_rest s))
+chunks_candidates = YieldsList-from_shown_while chunks_steps (λ x. candidate_at x.now) (λ s. candidates_of (chunks_rest s)) (λ s. chunks_size s ≡ 2)
+    (λ s t p k. ap length (candidates_none (chunks_rest s) (omega (arith, k.1.0))))
+    (λ s x t p k. (k.0 ∙ p, rw k.1.0 (chunk_first x.now (chunks_rest t) (rw (p, k.1.0) at k.1.1) (rw k.1.0 at k.1.2))))
 
-  pub bad_more : is_named t rules (candidate_at x) ≡ true → any_bad t rules (candidates_of l) ≡ any_bad t rules (candidates_of r)
-  unfolding any_bad
-  bad_more q = rw (first, q)
-
-  pub bad_stop : is_named t rules (candidate_at x) ≡ false → any_bad t rules (candidates_of l) ≡ true
-  unfolding any_bad
-  bad_stop q = rw (first, q)
-
-pub bad_end : (t : Elems) (rules : ℕ) (l : List ℕ) → length l ≡ 0 → any_bad t rules (candidates_of l) ≡ false
+-- none is bad exactly where all are named
+pub all_named : (t : Elems) (rules : ℕ) (cs : List Candidate) → not (any_bad t rules cs) ≡ list_all (is_named t rules) cs
 unfolding any_bad
-bad_end t rules l h = rw (candidates_none l (omega arith))
+all_named t rules [] = refl
+all_named t rules (c ∷ cs) = by (is_named t rules c) (all_named t rules cs)
+  where
+    by : (b : Bool) → not (any_bad t rules cs) ≡ list_all (is_named t rules) cs → not (not b || any_bad t rules cs) ≡ (b && list_all (is_named t rules) cs)
+    by true h = h
+    by false h = refl

@@ -25,10 +25,7 @@ pub fn count_candidates(candidates: &[u32]) -> usize
 fn rule_of(candidate: &[u32]) -> u64
     ensures { (result ≡ (candidate_at candidate.now).rule) × (result ≤ 4294967296) }
 {
-    match candidate.get(1) {
-        Some(rule) => *rule as u64,
-        None => MISSING_RULE,
-    }
+    candidate.get(1).map_or(MISSING_RULE, |rule| *rule as u64)
 }
 
 // Whether the candidate that a part begins with names a node of the tree and a rule.
@@ -43,12 +40,9 @@ fn is_named(tree: Tree, candidate: &[u32], rules: usize) -> bool
 pub fn are_named(tree: Tree, candidates: &[u32], rules: usize) -> bool
     ensures { result ≡ not (any_bad (tree_of tree.entry) rules (candidates_of candidates.now)) }
 {
-    for candidate in candidates.chunks(2) {
-        if !is_named(tree, candidate, rules) {
-            return false;
-        }
-    }
-    true
+    candidates
+        .chunks(2)
+        .all(|candidate| is_named(tree, candidate, rules))
 }
 
 // The key of the candidate that a part begins with.

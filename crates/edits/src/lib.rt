@@ -1,13 +1,14 @@
 // The edit list's words, and the answers of a job with the buffer then.
 #![tactic(auto)]
 
-ghost use Rattle.std.specs.Prelude.{◌≡◌, Ok, Err, [], ◌+◌, ◌≤◌, length, take, drop};
+ghost use Rattle.std.specs.Prelude.{◌≡◌, Ok, ◌+◌, ◌≤◌, length, take, drop};
 ghost use Rattle.words.specs.Buffer.{used_of, filled, laid, place_after, laid_if_room};
 ghost use Rattle.edits.specs.Edits.{edit_words};
 ghost use Rattle.edits.specs.Answers.{edited_numbers};
 
 use errors::Refusal;
-use words::{buffer, fields};
+use words::buffer;
+use words::fields::WordKind;
 
 // What came of a job that is not refused: Asked has the kind and the length of the text, an edit list its length.
 #[derive(Clone, Copy, Debug, PartialEq, Eq)]
@@ -68,9 +69,9 @@ impl EditHead {
         ensures { result ≡ edit_words self.start self.end self.length }
     {
         let mut words = [0; 12];
-        buffer::put_word(&mut words, 0, fields::edit_start(self.start));
-        buffer::put_word(&mut words, 4, fields::edit_end(self.end));
-        buffer::put_word(&mut words, 8, fields::edit_length(self.length));
+        buffer::put_word(&mut words, 0, WordKind::EditStart.word(self.start));
+        buffer::put_word(&mut words, 4, WordKind::EditEnd.word(self.end));
+        buffer::put_word(&mut words, 8, WordKind::EditLength.word(self.length));
         words
     }
 
@@ -89,15 +90,6 @@ fn move_to_front(out: &mut [u8], from: usize, n: usize)
     ensures { out.new ≡ laid out.old 0 (take n (drop from out.old)) }
 {
     out.copy_within(from..from + n, 0);
-}
-
-// A refusal, which leaves the buffer all 0.
-pub fn refuse(refusal: Refusal, out: &mut [u8]) -> Result<Edited, Refusal>
-    ensures value { result ≡ Err refusal }
-    ensures out_after { out.new ≡ filled out.old [] }
-{
-    buffer::finish(out, 0);
-    Err(refusal)
 }
 
 // The answer Asked: the buffer holds the n bytes of the text that stand at a place.

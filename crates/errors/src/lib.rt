@@ -1,8 +1,11 @@
 // The refusals of document 01, as an enum instead of the crate's message texts (docs/src/src/errors.rs).
 #![tactic(auto)]
 
-ghost use Rattle.std.specs.Prelude.{◌≡◌};
+ghost use Rattle.std.specs.Prelude.{◌≡◌, Err, []};
+ghost use Rattle.words.specs.Buffer.{filled};
 ghost use Rattle.errors.specs.Refusals.{number_of, outcome_number, lowest_of};
+
+use words::buffer;
 
 // One case for each number of 01's section "Refusals by operation", in its order.
 #[derive(Clone, Copy, Debug, PartialEq, Eq)]
@@ -62,7 +65,7 @@ pub fn outcome_number(outcome: Result<(), Refusal>) -> u32
 {
     match outcome {
         Ok(()) => 0,
-        Err(refusal) => refusal.into(),
+        Err(r) => r.into(),
     }
 }
 
@@ -75,4 +78,13 @@ pub fn lowest(a: Result<(), Refusal>, b: Result<(), Refusal>) -> Result<(), Refu
         (Err(r), _) => Err(r),
         (Ok(()), other) => other,
     }
+}
+
+// A refusal that leaves the buffer all 0.
+pub fn refuse<T>(refusal: Refusal, out: &mut [u8]) -> Result<T, Refusal>
+    ensures value { result ≡ Err refusal }
+    ensures out_after { out.new ≡ filled out.old [] }
+{
+    buffer::finish(out, 0);
+    Err(refusal)
 }

@@ -53,7 +53,7 @@ impl From<&Placeholder> for NamedPlaceholder {
 }
 
 // The names of a pattern's placeholders.
-fn names_of(pattern: &Pattern) -> [NamedPlaceholder; 8]
+fn names_of(pattern: &Pattern<'_>) -> [NamedPlaceholder; 8]
     ensures { result ≡ padded_to 8 no_name (map name_of (vars_of pattern.now)) }
 {
     let mut names = [NO_NAME; 8];
@@ -64,7 +64,7 @@ fn names_of(pattern: &Pattern) -> [NamedPlaceholder; 8]
 }
 
 // Its constraints in turn, and how many they are.
-fn constraints_of(pattern: &Pattern) -> ([u8; 50], usize)
+fn constraints_of(pattern: &Pattern<'_>) -> ([u8; 50], usize)
     ensures { result ≡ (padded_to 50 0 (all_nots (vars_of pattern.now)), length (all_nots (vars_of pattern.now))) }
 {
     let mut nots = [0; 50];
@@ -78,10 +78,10 @@ fn constraints_of(pattern: &Pattern) -> ([u8; 50], usize)
 }
 
 // Reading tokens.
-impl From<Result<Pattern, Refusal>> for ReadTokens {
+impl From<Result<Pattern<'_>, Refusal>> for ReadTokens {
     ghost from_gives = { λ answer numbers. numbers ≡ tokens_of (placeholders_read answer) };
 
-    fn from(answer: Result<Pattern, Refusal>) -> ReadTokens {
+    fn from(answer: Result<Pattern<'_>, Refusal>) -> ReadTokens {
         match answer {
             Err(refused) => ReadTokens {
                 refusal: u32::from(refused),

@@ -12,18 +12,27 @@ use facts::{Fact, Facts, Owner, Sort};
 use syntax::kinds::{EXPRESSIONS, Kinds, METHOD_CALL_EXPR, NODES, PATH, RECORD_EXPR_FIELD};
 use syntax::trees::Tree;
 use words::fields;
+use words::fields::WordKind;
 
 // The most facts that a list may have.
 const MAX_FACTS: usize = 16383;
+
+// A tree that facts stand on: whose it is, and how many bytes the text has that its facts point into.
+#[derive(Clone, Copy)]
+pub struct FactTree<'a> {
+    pub owner: Owner,
+    pub tree: Tree<'a>,
+    pub bytes: usize,
+}
 
 // Whether the words of a fact have their kinds.
 fn is_fact_part(part: &[u32]) -> bool
     ensures { result ≡ is_fact_part part.now }
 {
-    fields::kind(part, 0) == 9
-        && fields::kind(part, 1) == 10
-        && fields::kind(part, 2) == 10
-        && fields::kind(part, 3) == 10
+    fields::has_kind(part, 0, WordKind::Fact)
+        && fields::has_kind(part, 1, WordKind::Value)
+        && fields::has_kind(part, 2, WordKind::Value)
+        && fields::has_kind(part, 3, WordKind::Value)
 }
 
 // Whether a sort stands on an owner's trees.
@@ -79,92 +88,85 @@ fn has_values(sort: Sort, second: u32, third: u32, bytes: usize) -> bool
     }
 }
 
-// Whether a fact is one of a tree.
-fn is_of_tree(owner: Owner, tree: Tree, fact: Fact, bytes: usize) -> bool
-    ensures { result ≡ is_fact owner (tree_of tree.entry) bytes fact }
-{
-    match Sort::try_from(fact.sort) {
-        Ok(sort) => {
-            is_allowed(owner, sort)
-                && tree.is_node_at(fact.element, kinds_of(sort))
-                && names_token(tree, sort, fact)
-                && has_values(sort, fact.second, fact.third, bytes)
-        }
-        Err(_) => false,
+impl FactTree<'_> {
+    // Whether a fact is one of the tree.
+    fn has(self, fact: Fact) -> bool
+        ensures { result ≡ is_fact self.entry.owner (tree_of self.entry.tree) self.entry.bytes fact }
+    {
+        let Ok(sort) = Sort::try_from(fact.sort) else {
+            return false;
+        };
+        is_allowed(self.owner, sort)
+            && self.tree.is_node_at(fact.element, kinds_of(sort))
+            && names_token(self.tree, sort, fact)
+            && has_values(sort, fact.second, fact.third, self.bytes)
     }
-}
 
-// Whether a part is the words of a fact, and that is one of a tree.
-fn is_fact(owner: Owner, tree: Tree, part: &[u32], bytes: usize) -> bool
-    ensures { result ≡ (is_fact_part part.now && is_fact owner (tree_of tree.entry) bytes (fact_at part.now)) }
-{
-    is_fact_part(part) && is_of_tree(owner, tree, Fact::read(part), bytes)
-}
-
-// Whether all words are those of facts, and each is one of the tree.
-fn are_facts(owner: Owner, tree: Tree, words: &[u32], bytes: usize) -> bool
-    ensures { result ≡ (are_fact_words words.now && are_facts owner (tree_of tree.entry) bytes (facts_of words.now)) }
-{
-    if words.len() % 4 != 0 {
-        return false;
+    // Whether a part is the words of a fact, and that is one of the tree.
+    fn is_fact(self, part: &[u32]) -> bool
+        ensures { result ≡ (is_fact_part part.now && is_fact self.entry.owner (tree_of self.entry.tree) self.entry.bytes (fact_at part.now)) }
+    {
+        is_fact_part(part) && self.has(Fact::read(part))
     }
-    for part in words.chunks_exact(4) {
-        if !is_fact(owner, tree, part, bytes) {
+
+    // Whether all words are those of facts, and each is one of the tree.
+    fn are_facts(self, words: &[u32]) -> bool
+        ensures { result ≡ (are_fact_words words.now && are_facts self.entry.owner (tree_of self.entry.tree) self.entry.bytes (facts_of words.now)) }
+    {
+        if words.len() % 4 != 0 {
             return false;
         }
+        for part in words.chunks_exact(4) {
+            if !self.is_fact(part) {
+                return false;
+            }
+        }
+        true
     }
-    true
-}
 
-// The facts of a tree that words are, with a fact text of some bytes; their index is made in a lent slice.
-pub fn check_and_index<'a>(
-    owner: Owner,
-    tree: Tree,
-    words: &'a [u32],
-    bytes: usize,
-    index: &'a mut [u64],
-) -> Result<Facts<'a>, Refusal>
-    requires { length words.now / 4 ≤ 16383 → length words.now / 4 ≤ length index.old }
-    ensures accepted { IfOk result (λ facts. (facts ≡ words.now) × (is_fact_list owner (tree_of tree.entry) bytes words.now ≡ true)) }
-    ensures refused { IfErr result (λ r. (r ≡ MalformedFacts) × (is_fact_list owner (tree_of tree.entry) bytes words.now ≡ false)) }
-{
-    if MAX_FACTS < words.len() / 4 {
-        return Err(Refusal::MalformedFacts);
+    // The facts of the tree that words are; their index is made in a lent slice.
+    pub fn check_and_index<'a>(
+        self,
+        words: &'a [u32],
+        index: &'a mut [u64],
+    ) -> Result<Facts<'a>, Refusal>
+        requires { length words.now / 4 ≤ 16383 → length words.now / 4 ≤ length index.old }
+        ensures accepted { IfOk result (λ facts. (facts ≡ words.now) × (is_fact_list self.entry.owner (tree_of self.entry.tree) self.entry.bytes words.now ≡ true)) }
+        ensures refused { IfErr result (λ r. (r ≡ MalformedFacts) × (is_fact_list self.entry.owner (tree_of self.entry.tree) self.entry.bytes words.now ≡ false)) }
+    {
+        if MAX_FACTS < words.len() / 4 {
+            return Err(Refusal::MalformedFacts);
+        }
+        if !self.are_facts(words) {
+            return Err(Refusal::MalformedFacts);
+        }
+        let facts = Facts::index(words, index);
+        if facts.is_steady() {
+            Ok(facts)
+        } else {
+            Err(Refusal::MalformedFacts)
+        }
     }
-    if !are_facts(owner, tree, words, bytes) {
-        return Err(Refusal::MalformedFacts);
-    }
-    let facts = Facts::index(words, index);
-    if facts.is_steady() {
-        Ok(facts)
-    } else {
-        Err(Refusal::MalformedFacts)
-    }
-}
 
-// The same, where the facts are not wanted, with an index of N entries.
-fn check_in<const N: usize>(
-    owner: Owner,
-    tree: Tree,
-    words: &[u32],
-    bytes: usize,
-) -> Result<(), Refusal>
-    requires { (N ≤ 16384) × (length words.now / 4 ≤ 16383 → length words.now / 4 ≤ N) }
-    ensures { result ≡ cond (is_fact_list owner (tree_of tree.entry) bytes words.now) ok (err MalformedFacts) }
-{
-    let mut index = [0u64; N];
-    check_and_index(owner, tree, words, bytes, &mut index)?;
-    Ok(())
-}
+    // The same, where the facts are not wanted, with an index of N entries.
+    fn check_in<const N: usize>(self, words: &[u32]) -> Result<(), Refusal>
+        requires { (N ≤ 16384) × (length words.now / 4 ≤ 16383 → length words.now / 4 ≤ N) }
+        ensures { result ≡ cond (is_fact_list self.entry.owner (tree_of self.entry.tree) self.entry.bytes words.now) ok (err MalformedFacts) }
+    {
+        let mut index = [0u64; N];
+        self.check_and_index(words, &mut index)?;
+        Ok(())
+    }
 
-// Whether words are the well-formed facts of a tree, with a fact text of some bytes.
-pub fn check_facts(owner: Owner, tree: Tree, words: &[u32], bytes: usize) -> Result<(), Refusal>
-    ensures { result ≡ cond (is_fact_list owner (tree_of tree.entry) bytes words.now) ok (err MalformedFacts) }
-{
-    // Clearing the large array takes longer than most lists.
-    if words.len() / 4 <= 64 {
-        check_in::<64>(owner, tree, words, bytes)
-    } else {
-        check_in::<16384>(owner, tree, words, bytes)
+    // Whether words are the well-formed facts of the tree.
+    pub fn check_facts(self, words: &[u32]) -> Result<(), Refusal>
+        ensures { result ≡ cond (is_fact_list self.entry.owner (tree_of self.entry.tree) self.entry.bytes words.now) ok (err MalformedFacts) }
+    {
+        // Clearing the large array takes longer than most lists.
+        if words.len() / 4 <= 64 {
+            self.check_in::<64>(words)
+        } else {
+            self.check_in::<16384>(words)
+        }
     }
 }

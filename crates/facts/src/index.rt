@@ -48,7 +48,7 @@ fn lay_entries(words: &[u32], entries: &mut [u64])
 fn is_later_key(key: u64) -> bool
     ensures { result ≡ is_later_key key }
 {
-    (key / 0x1000_0000 % 16 == 3) & (0 < key % 0x1000_0000)
+    (key / 0x1000_0000 % 16 == Sort::Expression as u64) & (0 < key % 0x1000_0000)
 }
 
 // Facts and their index. A clause sees the list's words.

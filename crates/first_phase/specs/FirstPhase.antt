@@ -13,7 +13,7 @@ use Rattle.matcher.specs.Matcher.{Matcher}
 use Rattle.matching.specs.Matching.{match_node, match_by_kind, match_sequences}
 use Rattle.first_phase.specs.declared.checking.Check.{Check}
 use Rattle.first_phase.specs.declared.checking.Check.TheVariants.{Fails, Below, Passes}
-use Rattle.first_phase.specs.declared.checking.Turn.{Turn}
+use Rattle.matcher.specs.declared.Siblings.{Siblings}
 
 pub record NodeFails (x : Matcher) (p c : Elems) : Type 0 where
   pub fails : (n : ℕ) → match_node n x p c ≡ failed
@@ -40,7 +40,7 @@ KindCheck x p c Below = FailsIf x (children p) (children c) (KindFails x p c)
 KindCheck x p c Passes = Unit {0}
 
 -- what a turn says of siblings: they fail, or they do if those that it leaves do, which are fewer
-abbrev pub TurnChecks : Matcher → Part → Part → Option Turn → Type 0
+abbrev pub TurnChecks : Matcher → Part → Part → Option Siblings → Type 0
 TurnChecks x p c None = SiblingsFail x (elems_of p) (elems_of c)
 TurnChecks x p c (Some t) = FailsIf x (elems_of t.p) (elems_of t.c) (SiblingsFail x (elems_of p) (elems_of c)) × (length t.c.words.now < length c.words.now)
 

@@ -4,7 +4,7 @@ ghost use Rattle.syntax.specs.Views.{elems_of};
 ghost use Rattle.matcher.specs.Matcher.{matcher_of};
 ghost use Rattle.first_phase.specs.FirstPhase.{NodeFails, SiblingsFail, NodesCheck, KindCheck, TurnChecks};
 
-use matcher::Matcher;
+use matcher::{Matcher, Siblings};
 use syntax::kinds::{
     CALL_EXPR, Kinds, METHOD_CALL_EXPR, PATH, RECORD_EXPR_FIELD_LIST, TOKEN_TREE, TRIVIA,
 };
@@ -16,13 +16,6 @@ pub enum Check {
     Fails,
     Below,
     Passes,
-}
-
-// Siblings of the pattern and of the code that are checked next.
-#[derive(Clone, Copy)]
-pub struct Turn<'a> {
-    pub p: Part<'a>,
-    pub c: Part<'a>,
 }
 
 // Whether the code's method call or call can match the pattern's call, whose path says it; else by kind.
@@ -72,16 +65,16 @@ fn check_by_kind(x: &Matcher, p: Part, c: Part) -> Check
 
 // The first of the code's siblings: those behind it, or its children, are checked next. None where they cannot match.
 #[tactic(auto, using(crate::proofs::TurnLaws::turn_trivia, crate::proofs::TurnLaws::turn_token, crate::proofs::TurnLaws::turn_token_fails, crate::proofs::TurnLaws::turn_absent, crate::proofs::TurnLaws::turn_node_fails, crate::proofs::TurnLaws::turn_below, crate::proofs::TurnLaws::turn_node))]
-fn check_turn<'a>(x: &Matcher, p: Part<'a>, c: Part<'a>) -> Option<Turn<'a>>
+fn check_turn<'a>(x: &Matcher, p: Part<'a>, c: Part<'a>) -> Option<Siblings<'a>>
     requires { 3 ≤ length c.words.now }
     ensures { TurnChecks (matcher_of x.now) p.entry c.entry result }
 {
     let q = p.skip_trivia();
     if c.is_token_in(TRIVIA) {
-        return Some(Turn { p: q, c: c.rest() });
+        return Some(Siblings { p: q, c: c.rest() });
     }
     if c.is_token() {
-        return Some(Turn {
+        return Some(Siblings {
             p: x.attempt_match_token(q, c)?,
             c: c.rest(),
         });
@@ -91,11 +84,11 @@ fn check_turn<'a>(x: &Matcher, p: Part<'a>, c: Part<'a>) -> Option<Turn<'a>>
     }
     match check_nodes(x, q, c) {
         Check::Fails => None,
-        Check::Below => Some(Turn {
+        Check::Below => Some(Siblings {
             p: q.children(),
             c: c.children(),
         }),
-        Check::Passes => Some(Turn {
+        Check::Passes => Some(Siblings {
             p: q.rest(),
             c: c.rest(),
         }),
@@ -107,7 +100,7 @@ fn check_turn<'a>(x: &Matcher, p: Part<'a>, c: Part<'a>) -> Option<Turn<'a>>
 fn check_siblings(x: &Matcher, p: Part, c: Part) -> bool
     ensures { result ≡ false → SiblingsFail (matcher_of x.now) (elems_of p.entry) (elems_of c.entry) }
 {
-    let mut t = Turn { p, c };
+    let mut t = Siblings { p, c };
     while !t.c.is_empty() {
         let Some(next) = check_turn(x, t.p, t.c) else {
             return false;

@@ -9,6 +9,7 @@ use crate::directory::{ROW_LEN, Slice};
 use crate::forms::{Form, Side};
 use std::marker::Model;
 use std::mem;
+use tokens::TokenList;
 use words::slices;
 
 // The part that entry k of a row counts, of a slice that begins with the row's first.
@@ -38,17 +39,15 @@ impl<'a> Model for Pair<'a> {
 
 impl<'a> Pair<'a> {
     // The token list of a side.
-    pub fn list(&self, side: Side) -> &'a [u32]
-        ensures { result.now ≡ list_of side self.now }
+    pub fn list(&self, side: Side) -> TokenList<'a>
+        ensures words_value { result.words.now ≡ list_of side self.now }
+        ensures text_value { result.text.now ≡ text_of side self.now }
     {
-        part_of(self.row, Slice::Words, self.words, 4 * side as usize)
-    }
-
-    // The text of a side's list.
-    pub fn text(&self, side: Side) -> &'a [u8]
-        ensures { result.now ≡ text_of side self.now }
-    {
-        part_of(self.row, Slice::Bytes, self.bytes, 4 * side as usize + 1)
+        let k = 4 * side as usize;
+        TokenList {
+            words: part_of(self.row, Slice::Words, self.words, k),
+            text: part_of(self.row, Slice::Bytes, self.bytes, k + 1),
+        }
     }
 
     // The code that a side's trees were parsed from.
@@ -139,6 +138,13 @@ impl<'a> Pairs<'a> {
         ensures few { result < 2 ^ 59 }
     {
         self.directory.len() / ROW_LEN
+    }
+
+    // How many words stand beside the directory.
+    pub fn word_count(&self) -> usize
+        ensures { result ≡ length self.now.words }
+    {
+        self.words.len()
     }
 
     // Whether the directory is well-formed for the words and bytes beside it.

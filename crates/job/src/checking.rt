@@ -14,11 +14,10 @@ pub fn check_job<'a, const N: usize>(
     given: GivenJob<'a>,
     tables: &mut Tables<N>,
     index: &'a mut [u64],
-    keys: &'a mut [u64],
+    keys: &'a mut [u64; 1024],
 ) -> Result<CheckedJob<'a, N>, Refusal>
     requires room { Roomy N given.inputs.words.now }
     requires index_len { length given.inputs.file.facts.now / 4 ≤ 16383 → length given.inputs.file.facts.now / 4 ≤ length index.old }
-    requires keys_len { 1024 ≤ length keys.old }
     ensures value { outcome_of result ≡ job_outcome (job_in given.entry) }
     ensures given_is { IfOk result (λ job. job_in job.given ≡ job_in given.entry) }
 {

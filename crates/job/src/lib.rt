@@ -13,10 +13,12 @@ use edits::Edited;
 use errors::Refusal;
 use job_checks::GivenJob;
 use render_replace::RenderTables;
+use rule_paths::tables;
+use rule_paths::tables::{ALL, FEW, FEW_FACTS};
 use words::buffer;
 
 // All checks in turn, and then the edit list, in a buffer that is used whole: with tables for trees of up to N elements or facts, and an index
-// of up to F facts of the file. Clearing those for all that trees may have takes longer than most jobs.
+// of up to F facts of the file.
 #[tactic(auto, using(job_answers::proofs::AnswerLaws::refused, job_answers::proofs::AnswerLaws::written, crate::proofs::CheckingLaws::same_list))]
 fn job_in<const N: usize, const F: usize>(
     given: GivenJob<'_>,
@@ -33,7 +35,7 @@ fn job_in<const N: usize, const F: usize>(
     let mut keys = [0; 1024];
     match checking::check_job(given, &mut tables.matching.resolving, &mut index, &mut keys) {
         Ok(job) => job_list::write_checked(&job, &mut tables, out),
-        Err(refusal) => edits::refuse(refusal, out),
+        Err(refusal) => errors::refuse(refusal, out),
     }
 }
 
@@ -43,12 +45,10 @@ fn job_used(given: GivenJob<'_>, out: &mut [u8]) -> Result<Edited, Refusal>
     ensures value { result ≡ job_answer (the_job given.entry) (length out.old) }
     ensures out_after { out.new ≡ buffer_after (the_job given.entry) out.old }
 {
-    if given.inputs.words.len() <= 3072 {
-        if given.inputs.file.facts.len() <= 8192 {
-            return job_in::<1024, 2048>(given, out);
-        }
+    if tables::are_few(given.inputs.words.len(), given.inputs.file.facts.len()) {
+        return job_in::<FEW, FEW_FACTS>(given, out);
     }
-    job_in::<16384, 16384>(given, out)
+    job_in::<ALL, ALL>(given, out)
 }
 
 // A job: the rules, the fact text that their facts point into, the file, the parses, the candidates, and a range that matches have to be in.

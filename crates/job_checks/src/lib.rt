@@ -148,12 +148,7 @@ fn check_and_order<'a>(
 pub fn have_templates(pairs: &Pairs) -> bool
     ensures { stage_outcome Forms (all_pairs pairs.now) ≡ ok → result ≡ not (any_without_template (rules (all_pairs pairs.now))) }
 {
-    for pair in pairs {
-        if !pair.is_given(Side::Template) {
-            return false;
-        }
-    }
-    true
+    pairs.iter().all(|pair| pair.is_given(Side::Template))
 }
 
 // 24 to 28, of rules that passed 17 and a job's tree.

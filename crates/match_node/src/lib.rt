@@ -3,17 +3,18 @@
 
 ghost use Rattle.std.specs.Prelude.{◌≡◌, ◌≤◌, ◌/◌, length};
 ghost use Rattle.words.specs.Buffer.{used_of};
-ghost use Rattle.checks.specs.Given.{rules_of, given_in, file_in};
+ghost use Rattle.checks.specs.Given.{given_in, file_in};
 ghost use Rattle.rule_paths.specs.Needs.{Roomy};
 ghost use Rattle.match_node.specs.MatchNode.{matched_node, buffer_after, Answered};
 
 use answers::NodeMatch;
 use checks::Rules;
 use errors::Refusal;
-use fragments::pairs::Pairs;
 use preparing::MatchTables;
 use resolved::{Accepted, check_and_resolve};
 use rule_match::{Question, match_rule};
+use rule_paths::tables;
+use rule_paths::tables::{ALL, FEW, FEW_FACTS};
 use syntax::kinds::NODES;
 use trees::GivenFile;
 use words::buffer;
@@ -29,13 +30,13 @@ fn match_asked<const N: usize>(
     ensures { Answered accepted.now.rules (file_in accepted.now.file) question.rule question.range question.node out.old result out.new }
 {
     let Some(rule) = accepted.rules.rule(question.rule) else {
-        return answers::refuse(Refusal::NoSuchNodeOrRule, out);
+        return errors::refuse(Refusal::NoSuchNodeOrRule, out);
     };
     if checks::is_reversed(question.range) {
-        return answers::refuse(Refusal::NoSuchNodeOrRule, out);
+        return errors::refuse(Refusal::NoSuchNodeOrRule, out);
     }
     if !accepted.file.tree.is_node_at(question.node, NODES) {
-        return answers::refuse(Refusal::NoSuchNodeOrRule, out);
+        return errors::refuse(Refusal::NoSuchNodeOrRule, out);
     }
     let state = match_rule(
         &rule,
@@ -67,56 +68,38 @@ fn match_in<const N: usize, const M: usize>(
     let mut index = [0u64; M];
     match check_and_resolve(rules, file, &mut tables.resolving, &mut index) {
         Ok(accepted) => match_asked(&accepted, question, &mut tables, out),
-        Err(refusal) => answers::refuse(refusal, out),
+        Err(refusal) => errors::refuse(refusal, out),
     }
 }
 
-// In tables for few words, where these are enough: clearing those for all that trees may have takes longer than matching most nodes.
+// In tables for few words, where these are enough.
 fn match_used(
-    directory: &[u32],
-    words: &[u32],
-    bytes: &[u8],
-    fact_bytes: usize,
+    rules: Rules<'_>,
     file: GivenFile<'_>,
     question: Question,
     out: &mut [u8],
 ) -> Result<Option<NodeMatch>, Refusal>
     requires { length out.old ≤ 1048576 }
-    ensures value { result ≡ matched_node (rules_of directory.now words.now bytes.now fact_bytes) (given_in file.entry) question.rule question.range question.node (length out.old) }
-    ensures out_after { out.new ≡ buffer_after (rules_of directory.now words.now bytes.now fact_bytes) (given_in file.entry) question.rule question.range question.node out.old }
+    ensures value { result ≡ matched_node rules.entry (given_in file.entry) question.rule question.range question.node (length out.old) }
+    ensures out_after { out.new ≡ buffer_after rules.entry (given_in file.entry) question.rule question.range question.node out.old }
 {
-    let rules = Rules {
-        pairs: Pairs::new(directory, words, bytes),
-        fact_bytes,
-    };
-    if (words.len() <= 3072) & (file.facts.len() <= 8192) {
-        return match_in::<1024, 2048>(rules, file, question, out);
+    if tables::are_few(rules.pairs.word_count(), file.facts.len()) {
+        return match_in::<FEW, FEW_FACTS>(rules, file, question, out);
     }
-    match_in::<16384, 16384>(rules, file, question, out)
+    match_in::<ALL, ALL>(rules, file, question, out)
 }
 
 // Matching one node.
 #[tactic(auto, using(words::proofs::BufferLaws::used_small, words::proofs::BufferLaws::used_within, crate::proofs::AskedLaws::buffer_part))]
 pub fn match_node(
-    directory: &[u32],
-    words: &[u32],
-    bytes: &[u8],
-    fact_bytes: usize,
+    rules: Rules<'_>,
     file: GivenFile<'_>,
     question: Question,
     out: &mut [u8],
 ) -> Result<Option<NodeMatch>, Refusal>
-    ensures value { result ≡ matched_node (rules_of directory.now words.now bytes.now fact_bytes) (given_in file.entry) question.rule question.range question.node (used_of (length out.old)) }
-    ensures out_after { out.new ≡ buffer_after (rules_of directory.now words.now bytes.now fact_bytes) (given_in file.entry) question.rule question.range question.node out.old }
+    ensures value { result ≡ matched_node rules.entry (given_in file.entry) question.rule question.range question.node (used_of (length out.old)) }
+    ensures out_after { out.new ≡ buffer_after rules.entry (given_in file.entry) question.rule question.range question.node out.old }
 {
     let end = buffer::used(out.len());
-    match_used(
-        directory,
-        words,
-        bytes,
-        fact_bytes,
-        file,
-        question,
-        &mut out[..end],
-    )
+    match_used(rules, file, question, &mut out[..end])
 }

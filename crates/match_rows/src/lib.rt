@@ -44,8 +44,5 @@ pub fn row_of(node: usize, rule: usize, answer: Option<State>, module: u32) -> R
 pub fn module_of(facts: &Facts, node: usize) -> u32
     ensures { result ≡ module_of facts.now node }
 {
-    match facts.first(Sort::Node, node) {
-        Some(fact) => fact.first,
-        None => 0,
-    }
+    facts.first(Sort::Node, node).map_or(0, |fact| fact.first)
 }

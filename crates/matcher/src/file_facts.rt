@@ -41,10 +41,9 @@ impl<'a> Matcher<'a> {
     pub fn self_kind(&self, element: usize) -> SelfKind
         ensures { result ≡ self_kind_at self.now.facts.now element }
     {
-        match self.facts.first(Sort::MethodCall, element) {
-            Some(fact) => SelfKind::from(fact.third),
-            None => SelfKind::Owned,
-        }
+        self.facts
+            .first(Sort::MethodCall, element)
+            .map_or(SelfKind::Owned, |fact| SelfKind::from(fact.third))
     }
 
     // How often an expression is dereferenced until it has a type.

@@ -15,6 +15,13 @@ use syntax::parts::Part;
 use syntax::trees::Tree;
 use token_matching::Skip;
 
+// Siblings of the pattern, and of the code, that are matched with each other.
+#[derive(Clone, Copy)]
+pub struct Siblings<'a> {
+    pub p: Part<'a>,
+    pub c: Part<'a>,
+}
+
 // The rule's text, the marks of its pattern's elements and the limits of its placeholders; the file's text, tree and facts; and the
 // separators that may stand, or be left out, right before a closer.
 #[derive(Drop)]

@@ -20,10 +20,7 @@ fn word_of(number: Option<u32>) -> u32
     requires { IfSome number (λ n. n < u32.MAX) }
     ensures { result ≡ word_of number }
 {
-    match number {
-        Some(n) => n + 1,
-        None => 0,
-    }
+    number.map_or(0, |n| n + 1)
 }
 
 impl Mark {
@@ -46,15 +43,12 @@ impl Mark {
         ensures path { path_in result ≡ path }
         ensures call { call_in result ≡ call }
     {
-        let (function, qualifier) = match call {
-            Some(call) => (call.function + 1, word_of(call.qualifier)),
-            None => (0, 0),
-        };
+        let (function, qualifier) = call.map_or(
+            (0, 0),
+            |call| (call.function + 1, word_of(call.qualifier)),
+        );
         Mark {
-            placeholder: match placeholder {
-                Some(slot) => slot as u32 + 1,
-                None => 0,
-            },
+            placeholder: placeholder.map_or(0, |slot| slot as u32 + 1),
             path: word_of(path),
             function,
             qualifier,

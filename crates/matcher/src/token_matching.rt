@@ -1,5 +1,7 @@
 // When two tokens agree, and `attempt_match_token` of docs/src/src/matching.rs.
 ghost use Rattle.std.specs.Prelude.{◌≡◌};
+ghost use Rattle.syntax.specs.Accessors.{text_of};
+ghost use Rattle.syntax.specs.Siblings.{kind_of};
 ghost use Rattle.syntax.specs.Views.{elems_of, IsWithin};
 ghost use Rattle.matcher.specs.Matcher.{matcher_of};
 ghost use Rattle.matcher.specs.Tokens.{agree, same_name, same_stop, skips, is_extra, past_separator, is_same_token, TokenIs};
@@ -40,25 +42,45 @@ pub fn skips(sheet: &[Skip], kind: u32, next: u32) -> bool
         .any(|pair| pair.separator == kind && pair.closer == next)
 }
 
-// Whether two tokens agree.
-pub fn agree(kind: u32, text: &[u8], other_kind: u32, other: &[u8]) -> bool
-    ensures { result ≡ agree kind text.now other_kind other.now }
-{
-    kind == other_kind && text == other
+// A token as it is compared: its kind, and its text.
+#[derive(Clone, Copy)]
+pub struct TokenText<'a> {
+    pub kind: u32,
+    pub text: &'a [u8],
 }
 
-// Whether the names of two record fields are the same.
-pub fn same_name(kind: u32, text: &[u8], other_kind: u32, other: &[u8]) -> bool
-    ensures { result ≡ same_name kind text.now other_kind other.now }
-{
-    text == other
-}
+impl<'a> TokenText<'a> {
+    // The token that a part begins with, in the text that it is of.
+    pub fn of(c: Part, text: &'a [u8]) -> TokenText<'a>
+        ensures kind_value { result.kind ≡ kind_of (elems_of c.entry) }
+        ensures text_value { result.text.now ≡ text_of text.now (elems_of c.entry) }
+    {
+        TokenText {
+            kind: c.kind(),
+            text: c.text(text),
+        }
+    }
 
-// Whether a token of the code is the one at which a run stops.
-pub fn same_stop(kind: u32, text: &[u8], other_kind: u32, other: &[u8]) -> bool
-    ensures { result ≡ same_stop kind text.now other_kind other.now }
-{
-    text == other
+    // Whether two tokens agree.
+    pub fn agrees(self, other: TokenText) -> bool
+        ensures { result ≡ agree self.entry.kind self.entry.text.now other.entry.kind other.entry.text.now }
+    {
+        self.kind == other.kind && self.text == other.text
+    }
+
+    // Whether two names of record fields are the same.
+    pub fn is_same_name(self, other: TokenText) -> bool
+        ensures { result ≡ same_name self.entry.kind self.entry.text.now other.entry.kind other.entry.text.now }
+    {
+        self.text == other.text
+    }
+
+    // Whether a token of the code is this one of the pattern, at which a run stops.
+    pub fn is_same_stop(self, other: TokenText) -> bool
+        ensures { result ≡ same_stop self.entry.kind self.entry.text.now other.entry.kind other.entry.text.now }
+    {
+        self.text == other.text
+    }
 }
 
 impl<'a> Matcher<'a> {
@@ -84,9 +106,7 @@ impl<'a> Matcher<'a> {
     fn is_same_token(&self, p: Part, c: Part) -> bool
         ensures { result ≡ is_same_token self.now.rule.now self.now.file.now (elems_of p.entry) (elems_of c.entry) }
     {
-        let text = p.text(self.rule);
-        let other = c.text(self.file);
-        p.is_token() && agree(p.kind(), text, c.kind(), other)
+        p.is_token() && TokenText::of(p, self.rule).agrees(TokenText::of(c, self.file))
     }
 
     // Matches a token of the code that is no trivia with the pattern's next element that is none: what is left of the pattern then.

@@ -28,7 +28,7 @@ use Rattle.captures.proofs.AttemptLaws.{noted_after, laid-length, recorded_moved
 use Rattle.captures.proofs.AgainLaws.{laid_silent}
 use Rattle.matcher.specs.Matcher.{Matcher, has_placeholder_name}
 use Rattle.record_fields.specs.Fields.{pattern_name}
-use Rattle.record_fields.specs.declared.Lists.{Lists}
+use Rattle.matcher.specs.declared.Siblings.{Siblings}
 use Rattle.ordered_fields.specs.Order.{partner, asks, AsksFor}
 use Rattle.matching.specs.StartingOver.{meets}
 use Rattle.matching.specs.Matching.{enough, match_node, match_sequences, match_opt, SequencesGive, NotedGives, Went, Stands}
@@ -42,15 +42,15 @@ use Rattle.matching.proofs.PairLaws.{each_of_four, Paired, paired}
 use Rattle.matching.proofs.StandLaws.{parts, named_matches, first-stands, first_fits_lem, stood_turn}
 
 -- a field that was found: whether one was asked for, and which
-abbrev Found : Matcher → Lists → Bool → Elems → Elems → Option Part → Type 0
+abbrev Found : Matcher → Siblings → Bool → Elems → Elems → Option Part → Type 0
 Found x l on q c None = asks on q c ≡ false
 Found x l on q c (Some f) = (asks on q c ≡ true) × (elems_of f ≡ partner x (elems_of l.c) q) × (length f.words.now ≤ length l.c.words.now)
 
-found_is : (x : Matcher) (l : Lists) (on : Bool) (q c : Elems) (found : Option Part) → Found x l on q c found → is_some found ≡ asks on q c
+found_is : (x : Matcher) (l : Siblings) (on : Bool) (q c : Elems) (found : Option Part) → Found x l on q c found → is_some found ≡ asks on q c
 found_is x l on q c None a = sym a
 found_is x l on q c (Some f) a = sym a.0
 
-module _ (x : Matcher) (l : Lists) (before on : Bool) (p q c : Part) (s : State) (out : List ℕ) (from : ℕ) (stands : Stands before x l p from s out) (e : elems_of q ≡ skip_trivia (elems_of p))
+module _ (x : Matcher) (l : Siblings) (before on : Bool) (p q c : Part) (s : State) (out : List ℕ) (from : ℕ) (stands : Stands before x l p from s out) (e : elems_of q ≡ skip_trivia (elems_of p))
     (goes : on ≡ (before && not (has_placeholder_name x (elems_of q)))) (asked : Option Part) (ask : AsksFor (on && leb s.noted (length out)) x l (elems_of q) (elems_of c) asked)
     (found : Option Part) (found-is : found ≡ cond (meets asked (elems_of c)) (Some c) asked) (tail : Tail (elems_of l.c) (elems_of c))
     (in-p : length q.words.now ≤ length l.p.words.now) (in-c : length c.words.now ≤ length l.c.words.now) where

@@ -21,7 +21,7 @@ use Rattle.captures.specs.Turns.{GoesOn}
 use Rattle.captures.proofs.AttemptLaws.{then_nothing, gives_done, gives_failed, fails_then}
 use Rattle.captures.proofs.AgainLaws.{laid_silent, silent_stays}
 use Rattle.matcher.specs.Matcher.{Matcher, has_placeholder_name}
-use Rattle.record_fields.specs.declared.Lists.{Lists}
+use Rattle.matcher.specs.declared.Siblings.{Siblings}
 use Rattle.ordered_fields.specs.Order.{partner, AsksFor}
 use Rattle.matching.specs.StartingOver.{again, is_silent, meets}
 use Rattle.matching.specs.Matching.{enough, match_node, match_sequences, match_opt, SequencesGive, NodeGives, MeasuredGives, owed, Went}
@@ -40,7 +40,7 @@ again_none f x cs none d h = refl
 again_none f x cs (token i k s e r) d h = absurd (true≢false h)
 again_none f x cs (node i k s e ds r) d h = absurd (true≢false h)
 
-module _ (x : Matcher) (l : Lists) (before : Bool) (p q c : Part) (s : State) (out : List ℕ) (e : elems_of q ≡ skip_trivia (elems_of p)) where
+module _ (x : Matcher) (l : Siblings) (before : Bool) (p q c : Part) (s : State) (out : List ℕ) (e : elems_of q ≡ skip_trivia (elems_of p)) where
   abbrev whole_at : ℕ → ℕ → Attempt
   whole_at n m = and_then (match_sequences n x (elems_of p) (elems_of c)) (matched (owed before m x (elems_of l.c) (elems_of p) (elems_of c)))
 

@@ -24,7 +24,7 @@ use Rattle.captures.proofs.AttemptLaws.{given_true, given_false, gives_done, giv
 use Rattle.captures.proofs.AgainLaws.{laid_silent, silent_stays}
 use Rattle.matcher.specs.Matcher.{Matcher, has_placeholder_name}
 use Rattle.record_fields.specs.Fields.{pattern_name, is_free, are_asked, FieldIs}
-use Rattle.record_fields.specs.declared.Lists.{Lists}
+use Rattle.matcher.specs.declared.Siblings.{Siblings}
 use Rattle.record_fields.specs.declared.Field.TheVariants.{Unnamed, Taken, Last}
 use Rattle.ordered_fields.specs.Order.{starts_over, next, past, partner, is_same, is_beside}
 use Rattle.matching.specs.RecordFields.{match_fields}
@@ -45,7 +45,7 @@ named_free leaves f x ps cs q d e g =
     ap (λ (b : Bool). cond b (and_then (given (is_free x ps q)) y) (matched [])) e ∙ ap (λ (b : Bool). and_then (given b) y) g ∙ given_true y
     ∙ ap (λ (b : Bool). cond (leaves && (b && is_same (partner x cs q) (next d))) (matched []) (f q (partner x cs q))) e
 
-module _ (leaves : Bool) (x : Matcher) (l : Lists) (q d : Part) (s : State) (out : List ℕ) where
+module _ (leaves : Bool) (x : Matcher) (l : Siblings) (q d : Part) (s : State) (out : List ℕ) where
   pub field_unnamed : FieldIs x l (elems_of q) Unnamed → FieldGives leaves x l q d s out (Some s) out
   field_unnamed h = record { gives = λ n k. rw h (gives_done s out) }
 
@@ -85,7 +85,7 @@ by_more leaves f x ps cs (token i k s e r) d h = refl
 by_more leaves f x ps cs (node i k s e ds r) d h = ap (λ (b : Bool). cond b (matched []) (and_then (field_by_name leaves f x ps cs (node i k s e ds r)
     d) (by_name leaves f x ps cs r (past (node i k s e ds r) d)))) (not-true (has_placeholder_name x (node i k s e ds r)) h)
 
-module _ (leaves : Bool) (x : Matcher) (l : Lists) (q d : Part) (s : State) (out : List ℕ) where
+module _ (leaves : Bool) (x : Matcher) (l : Siblings) (q d : Part) (s : State) (out : List ℕ) where
   pub by_name_ends : some (elems_of q) ≡ false → ByNameGives leaves x l q d s out (Some s) out
   by_name_ends h = record { gives = λ n k. same_gives (by_ends leaves (λ y z. match_opt n x y z) x (elems_of l.p) (elems_of l.c) (elems_of q) (elems_of d) (rw h)) (gives_done s out) }
 
@@ -130,7 +130,7 @@ opened : (x : Matcher) (p c : Elems) (m : ℕ) → match_record_field_list (suc 
 unfolding match_node
 opened x p c m = refl
 
-module _ (x : Matcher) (p c : Part) (s : State) (out : List ℕ) (l : Lists) (below-p : elems_of l.p ≡ children (elems_of p)) (below-c : elems_of l.c ≡ children (elems_of c))
+module _ (x : Matcher) (p c : Part) (s : State) (out : List ℕ) (l : Siblings) (below-p : elems_of l.p ≡ children (elems_of p)) (below-c : elems_of l.c ≡ children (elems_of c))
     (short-p : length l.p.words.now ≤ length p.words.now - 3) (short-c : length l.c.words.now ≤ length c.words.now - 3) (long-p : 3 ≤ length p.words.now) (long-c : 3 ≤ length c.words.now) where
   abbrev Ps : Elems
   Ps = elems_of l.p

@@ -13,7 +13,7 @@ use Rattle.syntax.specs.Views.{elems_of}
 use Rattle.syntax.specs.declared.parts.Part.{Part}
 use Rattle.matcher.specs.Matcher.{Matcher, has_placeholder_name}
 use Rattle.record_fields.specs.Fields.{pattern_name}
-use Rattle.record_fields.specs.declared.Lists.{Lists}
+use Rattle.matcher.specs.declared.Siblings.{Siblings}
 use Rattle.ordered_fields.specs.Order.{partner, is_same, is_beside, AsksFor}
 use Rattle.matching.specs.StartingOver.{meets}
 use Rattle.matching.proofs.AlongLaws.{next_here}
@@ -33,7 +33,7 @@ unnamed true false k d h e f g = absurd (false≢true f)
 unnamed false b k d h e f g = absurd (false≢true e)
 
 -- the pattern's sibling q and the code's sibling c are matched by name and by order
-pub record Paired (x : Matcher) (l : Lists) (before on : Bool) (q c : Elems) : Type 0 where
+pub record Paired (x : Matcher) (l : Siblings) (before on : Bool) (q c : Elems) : Type 0 where
   pub on_is : on ≡ true
   pub before_is : before ≡ true
   pub plain : has_placeholder_name x q ≡ false
@@ -44,7 +44,7 @@ pub record Paired (x : Matcher) (l : Lists) (before on : Bool) (q c : Elems) : T
   pub there : some c ≡ true
   pub beside : is_beside x (elems_of l.c) q c ≡ true
 
-module _ (x : Matcher) (l : Lists) (before on : Bool) (q c : Elems) (goes : on ≡ (before && not (has_placeholder_name x q))) where
+module _ (x : Matcher) (l : Siblings) (before on : Bool) (q c : Elems) (goes : on ≡ (before && not (has_placeholder_name x q))) where
   -- another one is asked for, or none
   pub apart : (found : Option Part) → AsksFor on x l q c found → meets found c ≡ false → on ≡ true → is_a_token c ≡ false → is_a_node q ≡ true → is_beside x (elems_of l.c) q c ≡ false
   apart None a m o k n = rw (unnamed on (is_a_node q) (is_a_token c) (some (pattern_name q)) a o n k)

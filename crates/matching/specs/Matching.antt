@@ -17,7 +17,7 @@ use Rattle.captures.specs.declared.Turn.{Turn}
 use Rattle.matcher.specs.Matcher.{Matcher, slot_of, is_resolved, is_a_call}
 use Rattle.matcher.specs.Tokens.{matches_token, after_token, note}
 use Rattle.token_trees.specs.TokenTrees.{match_token_tree}
-use Rattle.record_fields.specs.declared.Lists.{Lists}
+use Rattle.matcher.specs.declared.Siblings.{Siblings}
 use Rattle.calls.specs.Calls.{call_of, arguments_of, argument_of, receiver_of, first_fits, same_resolution, same_function, takes_receiver, receiver_fits, prefixed, arguments_left}
 use Rattle.matching.specs.RecordFields.{match_fields}
 use Rattle.ordered_fields.specs.Order.{next}
@@ -154,11 +154,11 @@ abbrev pub ArgumentsGive : Matcher → Giving
 ArgumentsGive = GivesFrom 4 match_arguments
 
 -- for one of the pattern's siblings, and for what is left of them, by name: among all siblings of the pattern and of the code
-pub record FieldGives (leaves : Bool) (x : Matcher) (l : Lists) (q d : Part) (s : State) (out : List ℕ) (r : Option State) (out' : List ℕ) : Type 0 where
+pub record FieldGives (leaves : Bool) (x : Matcher) (l : Siblings) (q d : Part) (s : State) (out : List ℕ) (r : Option State) (out' : List ℕ) : Type 0 where
   pub gives : (n : ℕ) → enough 4 l.p l.c < n
       → Gives (field_by_name leaves (λ q e. match_opt n x q e) x (elems_of l.p) (elems_of l.c) (elems_of q) (elems_of d)) s out r out'
 
-pub record ByNameGives (leaves : Bool) (x : Matcher) (l : Lists) (q d : Part) (s : State) (out : List ℕ) (r : Option State) (out' : List ℕ) : Type 0 where
+pub record ByNameGives (leaves : Bool) (x : Matcher) (l : Siblings) (q d : Part) (s : State) (out : List ℕ) (r : Option State) (out' : List ℕ) : Type 0 where
   pub gives : (n : ℕ) → enough 4 l.p l.c < n
       → Gives (by_name leaves (λ q e. match_opt n x q e) x (elems_of l.p) (elems_of l.c) (elems_of q) (elems_of d)) s out r out'
 
@@ -166,7 +166,7 @@ pub record ByNameGives (leaves : Bool) (x : Matcher) (l : Lists) (q d : Part) (s
 abbrev pub owed : Bool → ℕ → Matcher → Elems → Elems → Elems → List Event
 owed before n x cs q d = cond before (again (λ q e. match_opt n x q e) x cs q d) []
 
-pub record MeasuredGives (before : Bool) (x : Matcher) (l : Lists) (p c : Part) (s : State) (out : List ℕ) (r : Option State) (out' : List ℕ) : Type 0 where
+pub record MeasuredGives (before : Bool) (x : Matcher) (l : Siblings) (p c : Part) (s : State) (out : List ℕ) (r : Option State) (out' : List ℕ) : Type 0 where
   pub gives : (n m : ℕ) → enough 4 p c < n → enough 4 l.p l.c < m
       → Gives (and_then (match_sequences n x (elems_of p) (elems_of c)) (matched (owed before m x (elems_of l.c) (elems_of p) (elems_of c)))) s out r out'
 
@@ -191,6 +191,6 @@ pub record Stood (a : Attempt) (from : ℕ) (s : State) (out : List ℕ) : Type 
   pub matches : a ≡ matched events
   pub bytes : s.noted ≤ length out → (from + length (comments events) ≤ s.noted) × (take (length (comments events)) (drop from out) ≡ comments events)
 
-pub record Stands (before : Bool) (x : Matcher) (l : Lists) (p : Part) (from : ℕ) (s : State) (out : List ℕ) : Type 0 where
+pub record Stands (before : Bool) (x : Matcher) (l : Siblings) (p : Part) (from : ℕ) (s : State) (out : List ℕ) : Type 0 where
   pub stands : (n : ℕ) → enough 4 l.p l.c < n
       → Stood (cond before (by_name false (λ q e. match_opt n x q e) x (elems_of l.p) (elems_of l.c) (elems_of p) none) (matched [])) from s out

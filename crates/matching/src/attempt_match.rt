@@ -10,8 +10,8 @@ ghost use Rattle.matching.specs.Matching.{NodeGives, ByKindGives, SequencesGive,
 ghost use Rattle.matching.specs.StartingOver.{is_silent, meets};
 
 use captures::{SelfKind, State, Turn};
-use matcher::Matcher;
-use record_fields::{Field, Lists};
+use matcher::{Matcher, Siblings};
+use record_fields::Field;
 use syntax::kinds::{
     ARG_LIST, CALL_EXPR, GENERIC_ARG_LIST, Kinds, LITERAL, METHOD_CALL_EXPR,
     PARENTHESIZED_ARG_LIST, PATH, PATH_SEGMENT, RECORD_EXPR_FIELD_LIST, TOKEN_TREE, TRIVIA,
@@ -176,7 +176,7 @@ fn record_field_list(x: &Matcher, p: Part, c: Part, s: State, out: &mut [u8]) ->
     ensures out_len_unchanged { length out.new ≡ length out.old }
     ensures record_gives { RecordGives (matcher_of x.now) p.entry c.entry s out.old result out.new }
 {
-    let lists = Lists {
+    let lists = Siblings {
         p: p.children(),
         c: c.children(),
     };
@@ -198,7 +198,7 @@ fn record_field_list(x: &Matcher, p: Part, c: Part, s: State, out: &mut [u8]) ->
 // Matches the pattern's siblings by name, up to the first whose name is a placeholder.
 #[tactic(auto, using(crate::proofs::NameLaws::by_name_ends, crate::proofs::NameLaws::by_name_stops, crate::proofs::NameLaws::by_name_fails, crate::proofs::NameLaws::by_name_goes, captures::proofs::TurnLaws::goes_first, captures::proofs::TurnLaws::goes_further, captures::proofs::TurnLaws::goes_end))]
 #[cycle(node)]
-fn by_name(x: &Matcher, lists: Lists, leaves: bool, s: State, out: &mut [u8]) -> Option<State>
+fn by_name(x: &Matcher, lists: Siblings, leaves: bool, s: State, out: &mut [u8]) -> Option<State>
     ensures out_len_unchanged { length out.new ≡ length out.old }
     ensures by_name_gives { ByNameGives leaves (matcher_of x.now) lists.entry lists.entry.p lists.entry.c s out.old result out.new }
 {
@@ -219,7 +219,7 @@ fn by_name(x: &Matcher, lists: Lists, leaves: bool, s: State, out: &mut [u8]) ->
 #[cycle(node)]
 fn field(
     x: &Matcher,
-    lists: Lists,
+    lists: Siblings,
     leaves: bool,
     q: Part,
     beside: Part,
@@ -264,7 +264,7 @@ fn found_here<'a>(found: Option<Part<'a>>, c: Part<'a>) -> Option<Part<'a>>
 
 // Matches the siblings by order, where no comment is laid: those of the pairs left out before count once more.
 #[cycle(node)]
-fn measured(x: &Matcher, lists: Lists, s: State, out: &mut [u8]) -> Option<State>
+fn measured(x: &Matcher, lists: Siblings, s: State, out: &mut [u8]) -> Option<State>
     requires out_value { is_silent s out.old ≡ true }
     ensures out_len_unchanged { length out.new ≡ length out.old }
     ensures measured_gives { MeasuredGives true (matcher_of x.now) lists.entry lists.entry.p lists.entry.c s out.old result out.new }
@@ -298,7 +298,7 @@ fn measured(x: &Matcher, lists: Lists, s: State, out: &mut [u8]) -> Option<State
 
 // Matches the siblings by order, where comments are laid: those of the siblings by name stand in the buffer from a place on.
 #[cycle(node)]
-fn laid(x: &Matcher, lists: Lists, start: usize, s: State, out: &mut [u8]) -> Option<State>
+fn laid(x: &Matcher, lists: Siblings, start: usize, s: State, out: &mut [u8]) -> Option<State>
     requires lays_value { s.lays ≡ true }
     requires stands { Stands true (matcher_of x.now) lists lists.p start s out.old }
     ensures out_len_unchanged { length out.new ≡ length out.old }

@@ -40,10 +40,7 @@ const _: () = prove!(size_of::<Row>() == 176);
 fn holds(captured: &Option<Binding>, start: usize, end: usize) -> bool
     ensures { result ≡ holds captured.now start end }
 {
-    match captured {
-        Some(b) => (b.start as usize <= start) & (end <= b.end as usize),
-        None => false,
-    }
+    captured.is_some_and(|b| (b.start as usize <= start) & (end <= b.end as usize))
 }
 
 impl Row {

@@ -9,7 +9,7 @@ use Rattle.syntax.specs.Views.{elems_of, IsWithin}
 use Rattle.syntax.specs.declared.parts.Part.{Part}
 use Rattle.matcher.specs.Matcher.{Matcher, has_placeholder_name}
 use Rattle.record_fields.specs.Fields.{pattern_name, field_for}
-use Rattle.record_fields.specs.declared.Lists.{Lists}
+use Rattle.matcher.specs.declared.Siblings.{Siblings}
 
 -- one of the pattern's siblings has a placeholder as its name
 unfoldable pub starts_over : Matcher → Elems → Bool
@@ -41,6 +41,6 @@ is_beside x cs q d = some (pattern_name q) && is_same (partner x cs q) (next d)
 abbrev pub asks : Bool → Elems → Elems → Bool
 asks on q c = on && is_a_node q && not (is_a_token c) && some (pattern_name q)
 
-abbrev pub AsksFor : Bool → Matcher → Lists → Elems → Elems → Option Part → Type 0
+abbrev pub AsksFor : Bool → Matcher → Siblings → Elems → Elems → Option Part → Type 0
 AsksFor on x lists q c None = asks on q c ≡ false
 AsksFor on x lists q c (Some f) = (asks on q c ≡ true) × (elems_of f ≡ partner x (elems_of lists.c) q) × IsWithin f lists.c

@@ -6,8 +6,7 @@ ghost use Rattle.syntax.specs.Views.{elems_of, IsWithin};
 ghost use Rattle.matcher.specs.Matcher.{matcher_of, has_placeholder_name};
 ghost use Rattle.ordered_fields.specs.Order.{starts_over, next, past, is_same, AsksFor};
 
-use matcher::Matcher;
-use record_fields::Lists;
+use matcher::{Matcher, Siblings};
 use syntax::kinds::TOKENS;
 use syntax::parts::Part;
 
@@ -60,7 +59,7 @@ pub fn is_same(a: Part, b: Part) -> bool
 
 // The code's field that one of the pattern's siblings asks for by its name, where both it and the code's, c, are matched by order and no name
 // was a placeholder.
-pub fn asked<'a>(x: &Matcher, on: bool, lists: Lists<'a>, q: Part, c: Part) -> Option<Part<'a>>
+pub fn asked<'a>(x: &Matcher, on: bool, lists: Siblings<'a>, q: Part, c: Part) -> Option<Part<'a>>
     ensures { AsksFor on (matcher_of x.now) lists.entry (elems_of q.entry) (elems_of c.entry) result }
 {
     if on && q.is_node() && !c.is_token() {

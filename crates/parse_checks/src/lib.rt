@@ -10,14 +10,15 @@ ghost use Rattle.parses.specs.Parses.{is_parse, is_parse_list, parses_of, parses
 
 use errors::Refusal;
 use parses::{Parses, Parts, parse_words};
+use words::fields::WordKind;
 use words::{fields, slices};
 
 // Whether a part begins with a range inside n bytes.
 fn is_range(words: &[u32], n: usize) -> bool
     ensures { result ≡ is_range n words.now }
 {
-    (fields::kind(words, 0) == 3)
-        & (fields::kind(words, 1) == 4)
+    fields::has_kind(words, 0, WordKind::Start)
+        & fields::has_kind(words, 1, WordKind::End)
         & (fields::value(words, 0) <= fields::value(words, 1))
         & (fields::value(words, 1) as usize <= n)
 }
@@ -38,8 +39,8 @@ fn is_parse(words: &[u32], n: usize) -> bool
     let Some(ranges) = words.get(3..parse_words(words)) else {
         return false;
     };
-    if (fields::kind(words, 0) == 8)
-        & (fields::parse_kind(words) != 0)
+    if fields::has_kind(words, 0, WordKind::Parse)
+        & (fields::syntax_kind(words) != 0)
         & is_range(slices::tail(words, 1), n)
     {
         return are_ranges(

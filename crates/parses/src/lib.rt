@@ -88,7 +88,7 @@ impl<'a> Parses<'a> {
             return None;
         }
         let first = Parse {
-            kind: fields::parse_kind(self.words),
+            kind: fields::syntax_kind(self.words),
             text: parts::text_of(self.words, self.text),
             ranges: parts::ranges_of(self.words),
         };

@@ -13,7 +13,7 @@ use words::{fields, slices};
 pub fn parse_words(words: &[u32]) -> usize
     ensures { result ≡ parse_words words.now }
 {
-    3 + 2 * fields::parse_count(words)
+    3 + 2 * fields::size(words)
 }
 
 // What stands behind it.
@@ -36,7 +36,7 @@ pub fn ranges_of(words: &[u32]) -> &[[u32; 2]]
     ensures { ranges_in result.now ≡ ranges_of (range_words words.now) }
 {
     let behind = slices::tail(words, 3);
-    let pairs = &behind[..(2 * fields::parse_count(words)).min(behind.len())];
+    let pairs = &behind[..(2 * fields::size(words)).min(behind.len())];
     let (pairs, _) = pairs.as_chunks::<2>();
     pairs
 }

@@ -7,7 +7,7 @@ use errors::Refusal;
 use words::texts::Range;
 
 // A placeholder: its bytes, its name's, and of each constraint how many `not`s stand around `kind(literal)`.
-#[derive(Drop)]
+#[derive(Default, Drop)]
 pub struct Placeholder {
     pub whole: Range,
     pub name: Range,
@@ -23,54 +23,47 @@ impl Placeholder {
     }
 }
 
-// What an empty place of a pattern holds.
-impl Default for Placeholder {
-    fn default() -> Self {
-        let nowhere = Range { start: 0, end: 0 };
-        Placeholder {
-            whole: nowhere,
-            name: nowhere,
-            nots: ArrayVec::new(),
-        }
-    }
-}
-
-// The placeholders in list order. A list of 255 tokens has at most fifty constraints.
+// The placeholders in list order, and the list's text, where their names stand. A list of 255 tokens has at most fifty constraints.
 #[derive(Drop)]
-pub struct Pattern {
+pub struct Pattern<'a> {
+    pub text: &'a [u8],
     pub placeholders: ArrayVec<Placeholder, 8>,
     ghost eight: { length placeholders.items ≤ 8 },
     ghost fifty: { length (all_nots (vars_at placeholders.items)) ≤ 50 },
 }
 
-impl Pattern {
+impl<'a> Pattern<'a> {
     ghost use Rattle.parsing.specs.Vars.{vars_of};
     ghost use Rattle.parsing.specs.Steps.{Added};
 
-    // No placeholders.
-    pub fn new() -> Self
-        ensures { vars_of result ≡ [] }
+    // No placeholders of a text.
+    pub fn new(text: &'a [u8]) -> Self
+        ensures vars { vars_of result ≡ [] }
+        ensures text_value { result.text.now ≡ text.now }
     {
         Pattern {
+            text,
             placeholders: ArrayVec::new(),
         }
     }
 
     // The first placeholder with a name.
-    pub fn find_name(&self, text: &[u8], name: &[u8]) -> Option<usize>
-        ensures { result ≡ name_position text.now (vars_of self.now) name.now }
+    pub fn find_name(&self, name: &[u8]) -> Option<usize>
+        ensures { result ≡ name_position self.now.text.now (vars_of self.now) name.now }
     {
+        let text = self.text;
         self.placeholders
             .iter()
             .position(|p| p.is_named(text, name))
     }
 
     // The end of a placeholder: its name must be new, and it the eighth at most.
-    pub(crate) fn add(&mut self, text: &[u8], placeholder: Placeholder) -> Result<(), Refusal>
+    pub(crate) fn add(&mut self, placeholder: Placeholder) -> Result<(), Refusal>
         requires { length (all_nots (vars_of self.old)) + length placeholder.nots.items ≤ 50 }
-        ensures { Added text.now (vars_of self.old) (var_of placeholder) result (vars_of self.new) }
+        ensures added { Added self.old.text.now (vars_of self.old) (var_of placeholder) result (vars_of self.new) }
+        ensures text { self.new.text ≡ self.old.text }
     {
-        if self.find_name(text, placeholder.name.of(text)).is_some() {
+        if self.find_name(placeholder.name.of(self.text)).is_some() {
             return Err(Refusal::RepeatedName);
         }
         if self.placeholders.is_full() {

@@ -1,5 +1,5 @@
 // Reading a list token by token.
-ghost use Rattle.std.specs.Prelude.{◌≡◌, ◌≤◌, true, length, OnOk};
+ghost use Rattle.std.specs.Prelude.{◌≡◌, ◌≤◌, true, length, IfOk, OnOk};
 ghost use Rattle.tokens.specs.Tokens.{is_token_list};
 ghost use Rattle.parsing.specs.Vars.{placeholders_read};
 ghost use Rattle.parsing.specs.Reading.{dollar, brace, is_text, placeholders};
@@ -8,6 +8,7 @@ ghost use Rattle.parsing.specs.Steps.{TextRead, KindRead, ConstraintRead, Braces
 use crate::patterns::{Pattern, Placeholder};
 use arrayvec::ArrayVec;
 use errors::Refusal;
+use syntax::kinds::{COLON, DOLLAR, IDENT, L_CURLY, R_CURLY};
 use tokens::{Token, TokenList, Tokens};
 use words::texts::Range;
 
@@ -46,7 +47,7 @@ impl<'a> Reader<'a> {
         let Some(name) = self.tokens.next() else {
             return Err(Refusal::NoKindIdent);
         };
-        if name.kind != tokens::IDENT {
+        if name.kind != IDENT {
             return Err(Refusal::NoKindIdent);
         }
         self.pass(b")")?;
@@ -87,8 +88,8 @@ impl<'a> Reader<'a> {
         let mut nots = ArrayVec::new();
         while let Some(token) = self.tokens.next() {
             match token.kind {
-                tokens::COLON => nots.push(self.read_constraint()?),
-                tokens::RIGHT_BRACE => return Ok((nots, token.range.end)),
+                COLON => nots.push(self.read_constraint()?),
+                R_CURLY => return Ok((nots, token.range.end)),
                 _ => return Err(Refusal::UnexpectedToken),
             }
         }
@@ -105,7 +106,7 @@ impl<'a> Reader<'a> {
             return Err(Refusal::EndsAfterBrace);
         };
         let (nots, end) = self.read_constraints()?;
-        if first.kind != tokens::IDENT {
+        if first.kind != IDENT {
             return Err(Refusal::NoName);
         }
         Ok(Placeholder {
@@ -125,7 +126,7 @@ impl<'a> Reader<'a> {
             return Err(Refusal::NoName);
         };
         match token.kind {
-            tokens::IDENT => Ok(Placeholder {
+            IDENT => Ok(Placeholder {
                 whole: Range {
                     start,
                     end: token.range.end,
@@ -133,29 +134,30 @@ impl<'a> Reader<'a> {
                 name: token.range,
                 nots: ArrayVec::new(),
             }),
-            tokens::LEFT_BRACE => self.read_braces(start),
+            L_CURLY => self.read_braces(start),
             _ => Err(Refusal::NeitherNameNorBrace),
         }
     }
 }
 
 // Reading tokens: the placeholders in list order, or the first refusal met from the left.
-pub fn parse_pattern(list: TokenList) -> Result<Pattern, Refusal>
+pub fn parse_pattern(list: TokenList<'_>) -> Result<Pattern<'_>, Refusal>
     ensures value { placeholders_read result ≡ placeholders list.entry.words.now list.entry.text.now }
+    ensures text { IfOk result (λ p. p.text.now ≡ list.entry.text.now) }
     ensures formed { OnOk result (is_token_list list.entry.words.now list.entry.text.now ≡ true) }
 {
     if !list.is_well_formed() {
         return Err(Refusal::MalformedList);
     }
-    let mut pattern = Pattern::new();
+    let mut pattern = Pattern::new(list.text);
     let mut reader = Reader {
         tokens: list.tokens(),
         text: list.text,
     };
     while let Some(token) = reader.tokens.next() {
-        if token.kind == tokens::DOLLAR {
+        if token.kind == DOLLAR {
             let placeholder = reader.read_placeholder(token.range.start)?;
-            pattern.add(list.text, placeholder)?;
+            pattern.add(placeholder)?;
         }
     }
     Ok(pattern)

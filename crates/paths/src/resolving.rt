@@ -46,13 +46,12 @@ pub enum Step {
     Enters,
 }
 
-// A rule's tree with its own text and facts, and the placeholders of the rule's pattern with the text of their list.
+// A rule's tree with its own text and facts, and the placeholders of the rule's pattern.
 #[derive(Drop)]
 pub struct RuleTree<'a> {
     pub tree: Tree<'a>,
     pub code: &'a [u8],
-    pub text: &'a [u8],
-    pub pattern: &'a Pattern,
+    pub pattern: &'a Pattern<'a>,
     pub facts: Facts<'a>,
     pub ghost few: { length (facts_of facts) ≤ 16383 },
 }
@@ -105,20 +104,18 @@ impl<'a> RuleTree<'a> {
     pub fn new(
         tree: Tree<'a>,
         code: &'a [u8],
-        text: &'a [u8],
-        pattern: &'a Pattern,
+        pattern: &'a Pattern<'a>,
         facts: &'a [u32],
         index: &'a mut [u64],
     ) -> RuleTree<'a>
         requires has_facts { HasFacts tree.words.now facts.now }
         requires index_len { length facts.now / 4 ≤ length index.old }
-        ensures { side_tree result ≡ record { side = side_by text.now (vars_of pattern.now) code.now facts.now; words = tree.entry.words.now } }
+        ensures { side_tree result ≡ record { side = side_by pattern.now.text.now (vars_of pattern.now) code.now facts.now; words = tree.entry.words.now } }
     {
         let facts = Facts::index(facts, index);
         RuleTree {
             tree,
             code,
-            text,
             pattern,
             facts,
         }
@@ -132,7 +129,7 @@ impl<'a> RuleTree<'a> {
     {
         // `len` promises that there are eight at most.
         let _ = self.pattern.placeholders.len();
-        rust_code::find_stand_in(self.text, self.pattern, name)
+        rust_code::find_stand_in(self.pattern, name)
     }
 
     // Whether the name of the first path among siblings or of one of its qualifiers is a stand-in name.

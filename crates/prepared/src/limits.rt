@@ -26,7 +26,7 @@ fn limit_of(nots: &[u8]) -> Limit
 }
 
 // Of each placeholder whether a constraint of its own wants a literal and whether one wants another thing.
-pub fn limits_of(pattern: &Pattern) -> [Limit; 8]
+pub fn limits_of(pattern: &Pattern<'_>) -> [Limit; 8]
     ensures { Limited (vars_of pattern.now) result }
 {
     let mut limits = [Limit {

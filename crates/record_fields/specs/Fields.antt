@@ -9,8 +9,8 @@ use Rattle.syntax.specs.Views.{elems_of, IsWithin}
 use Rattle.matcher.specs.Matcher.{Matcher}
 use Rattle.matcher.specs.Tokens.{same_name}
 use Rattle.matcher.specs.FileFacts.{name_token}
-use Rattle.record_fields.specs.declared.Name.{Name}
-use Rattle.record_fields.specs.declared.Lists.{Lists}
+use Rattle.matcher.specs.declared.token_matching.TokenText.{TokenText}
+use Rattle.matcher.specs.declared.Siblings.{Siblings}
 use Rattle.record_fields.specs.declared.Field.{Field}
 use Rattle.record_fields.specs.declared.Field.TheVariants.{Unnamed, Taken, Last}
 
@@ -62,12 +62,12 @@ abbrev pub field_for : Matcher → Elems → Elems → Elems
 field_for x q cs = last_field x (kind_of (pattern_name q)) (text_of x.code (pattern_name q)) cs
 
 -- the name that a token is, in a text; none where there is no token
-abbrev pub NameIs : List ℕ → Elems → Option Name → Type 0
+abbrev pub NameIs : List ℕ → Elems → Option TokenText → Type 0
 NameIs text c None = some c ≡ false
 NameIs text c (Some name) = (some c ≡ true) × (name.kind ≡ kind_of c) × (name.text.now ≡ text_of text c)
 
 -- what the code gives of one of the pattern's siblings
-abbrev pub FieldIs : Matcher → Lists → Elems → Field → Type 0
+abbrev pub FieldIs : Matcher → Siblings → Elems → Field → Type 0
 FieldIs x lists q Unnamed = some (pattern_name q) ≡ false
 FieldIs x lists q Taken = (some (pattern_name q) ≡ true) × (is_free x (elems_of lists.p) q ≡ false)
 FieldIs x lists q (Last c) =

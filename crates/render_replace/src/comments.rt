@@ -14,10 +14,7 @@ use rule_match::Question;
 fn noted_in(state: Option<State>) -> usize
     ensures { result ≡ noted_in state }
 {
-    match state {
-        Some(s) => s.noted,
-        None => 0,
-    }
+    state.map_or(0, |s| s.noted)
 }
 
 // Lays the comments of a row's match.

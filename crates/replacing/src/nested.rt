@@ -14,10 +14,7 @@ use words::{buffer, slices};
 fn end_of(binding: Option<Binding>) -> usize
     ensures { result ≡ end_in binding }
 {
-    match binding {
-        Some(b) => b.end as usize,
-        None => 0,
-    }
+    binding.map_or(0, |b| b.end as usize)
 }
 
 // A step on in a captured text of row k: up to the row that is nested in it next, whose text begins then, or up to its end.

@@ -7,10 +7,9 @@ use exports::{NamedPlaceholder, RawCode, ReadTokens};
 
 // Whether bytes are the expected ones, and then 0.
 pub fn is_expected(found: &[u8], expected: &[u8]) -> bool {
-    match found.strip_prefix(expected) {
-        Some(rest) => rest.iter().all(|byte| *byte == 0),
-        None => false,
-    }
+    found
+        .strip_prefix(expected)
+        .is_some_and(|rest| rest.iter().all(|byte| *byte == 0))
 }
 
 // The bytes of an answer's first fields. No answer has more than 172.
@@ -53,10 +52,7 @@ pub fn is_answer<A: Answer>(answer: &A, expected: &[u8]) -> bool {
     let mut found = Bytes {
         laid: ArrayVec::new(),
     };
-    match answer.lay(&mut found) {
-        Some(()) => is_expected(found.laid.as_slice(), expected),
-        None => false,
-    }
+    answer.lay(&mut found).is_some() && is_expected(found.laid.as_slice(), expected)
 }
 
 impl Answer for u32 {

@@ -21,10 +21,8 @@ pub fn number(s: &[u8]) -> u32
     ensures value { 4 ≤ length s.now → result ≡ number_of s.now }
     ensures cut_off { length s.now < 4 → result ≡ 0 }
 {
-    match s.first_chunk::<4>() {
-        Some(bytes) => u32::from_le_bytes(*bytes),
-        None => 0,
-    }
+    s.first_chunk::<4>()
+        .map_or(0, |bytes| u32::from_le_bytes(*bytes))
 }
 
 // The parts of a record.

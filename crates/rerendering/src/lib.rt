@@ -17,32 +17,26 @@ use replacing::{Event, Template};
 use rows::frames::{Frame, Span};
 use rows::matches;
 use rows::told::Fragment;
-use syntax::kinds::Kinds;
+use syntax::kinds::{EXPRESSIONS, ITEMS, Kinds};
 
 // The kinds of template roots that are parsed: expressions and items.
 const PARSED: Kinds = Kinds {
-    low: 64,
-    high: 2047,
+    low: EXPRESSIONS.low,
+    high: ITEMS.high,
 };
 
 // How many bytes a slot's text has.
 fn slot_length(text: Option<Span>) -> usize
     ensures { result ≡ slot_length text }
 {
-    match text {
-        Some(span) => span.end.saturating_sub(span.start) as usize,
-        None => 0,
-    }
+    text.map_or(0, |span| span.end.saturating_sub(span.start) as usize)
 }
 
 // How many bytes the prefix of a placeholder has.
-fn prefix_length(binding: &Option<Binding>, is_receiver: bool) -> usize
-    ensures { result ≡ length (prefix_in binding.now is_receiver) }
+fn prefix_length(binding: Option<Binding>, is_receiver: bool) -> usize
+    ensures { result ≡ length (prefix_in binding is_receiver) }
 {
-    match binding {
-        Some(b) => matches::prefix_length(b, is_receiver),
-        None => 0,
-    }
+    binding.map_or(0, |b| matches::prefix_length(&b, is_receiver))
 }
 
 // The part that a fragment rendered.
@@ -58,7 +52,7 @@ fn part_of(bindings: &[Option<Binding>; 8], frame: &Frame, fragment: Fragment<'_
         },
         Fragment::Captured(hole) => {
             let slot = hole.slot as usize;
-            let prefix = prefix_length(&bindings[slot], hole.is_receiver);
+            let prefix = prefix_length(bindings[slot], hole.is_receiver);
             let length = prefix + slot_length(frame.texts[slot]);
             Part {
                 length: length as u32,
@@ -80,8 +74,8 @@ fn measure_parts<T: Template>(
     requires { (length parts.old ≡ length (T.fragments template.now)) × (total (measured_parts bindings.now frame.now (T.fragments template.now)) ≤ 1048576) }
     ensures { parts_of parts.new ≡ measured_parts bindings.now frame.now (T.fragments template.now) }
 {
-    for i in 0..parts.len() {
-        parts[i] = part_of(bindings, frame, template.fragment(i));
+    for (i, part) in parts.iter_mut().enumerate() {
+        *part = part_of(bindings, frame, template.fragment(i));
     }
 }
 

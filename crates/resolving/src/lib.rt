@@ -2,18 +2,25 @@
 #![tactic(auto)]
 
 ghost use Rattle.std.specs.Prelude.{◌≡◌, ◌≤◌};
-ghost use Rattle.checks.specs.Given.{rules_of};
 ghost use Rattle.rule_paths.specs.Needs.{Roomy};
 ghost use Rattle.resolving.specs.Resolving.{in_tree, in_rule, in_rules, resolved_element};
 
 use checks::Rules;
 use errors::Refusal;
 use facts::Call;
-use fragments::pairs::Pairs;
 use paths::Resolved;
-use rule_paths::{ResolvedRule, ResolvedRules, Tables};
+use rule_paths::tables::{ALL, FEW};
+use rule_paths::{ResolvedRule, ResolvedRules, Tables, tables};
 use rules::stages;
 use syntax::kinds::{ElementKind, SELF_KW};
+
+// What is asked for: the number of a rule, its side, of which 0 is the pattern and 1 the template, and an element.
+#[derive(Clone, Copy)]
+pub struct Question {
+    pub rule: usize,
+    pub side: u32,
+    pub element: usize,
+}
 
 // An element of a rule's tree.
 #[derive(Clone, Copy, Debug, PartialEq, Eq)]
@@ -41,18 +48,17 @@ fn find_in_tree(resolved: &Resolved, element: usize) -> Option<Element>
     })
 }
 
-// An element of a side of a rule: 0 is the pattern, 1 the template.
+// An element of a side of a rule.
 fn find_in_rule<const N: usize>(
     rule: &ResolvedRule<N>,
-    side: u32,
-    element: usize,
+    asked: Question,
     tables: &mut Tables<N>,
 ) -> Option<Element>
-    ensures { result ≡ in_rule rule.now side element }
+    ensures { result ≡ in_rule rule.now asked.side asked.element }
 {
-    match side {
-        0 => find_in_tree(&rule.resolve_pattern(tables), element),
-        1 => find_in_tree(&rule.resolve_template(tables)?, element),
+    match asked.side {
+        0 => find_in_tree(&rule.resolve_pattern(tables), asked.element),
+        1 => find_in_tree(&rule.resolve_template(tables)?, asked.element),
         _ => None,
     }
 }
@@ -60,53 +66,33 @@ fn find_in_rule<const N: usize>(
 // The same of the rule of a number.
 fn find_in_rules<const N: usize>(
     rules: &ResolvedRules<N>,
-    number: usize,
-    side: u32,
-    element: usize,
+    asked: Question,
     tables: &mut Tables<N>,
 ) -> Option<Element>
-    ensures { result ≡ in_rules rules.now number side element }
+    ensures { result ≡ in_rules rules.now asked.rule asked.side asked.element }
 {
-    let rule = rules.rule(number)?;
-    find_in_rule(&rule, side, element, tables)
+    let rule = rules.rule(asked.rule)?;
+    find_in_rule(&rule, asked, tables)
 }
 
 // The stages, and then the element, in tables of N.
-fn resolve_in<const N: usize>(
-    rules: Rules,
-    number: usize,
-    side: u32,
-    element: usize,
-) -> Result<Option<Element>, Refusal>
+fn resolve_in<const N: usize>(rules: Rules, asked: Question) -> Result<Option<Element>, Refusal>
     requires few { N ≤ 16384 }
     requires room { Roomy N rules.pairs.words }
-    ensures { result ≡ resolved_element rules.entry number side element }
+    ensures { result ≡ resolved_element rules.entry asked.rule asked.side asked.element }
 {
     stages::check_rules(&rules.pairs, Some(rules.fact_bytes))?;
     let mut tables: Tables<N> = Tables::new();
     let rules = ResolvedRules::new(rules, &mut tables)?;
-    Ok(find_in_rules(&rules, number, side, element, &mut tables))
+    Ok(find_in_rules(&rules, asked, &mut tables))
 }
 
-// Resolving, with the number of a rule, a side and an element that are asked for; none where there is no such rule, side or element.
-pub fn resolve_element(
-    directory: &[u32],
-    words: &[u32],
-    bytes: &[u8],
-    fact_bytes: usize,
-    number: usize,
-    side: u32,
-    element: usize,
-) -> Result<Option<Element>, Refusal>
-    ensures { result ≡ resolved_element (rules_of directory.now words.now bytes.now fact_bytes) number side element }
+// Resolving; none where there is no such rule, side or element as is asked for.
+pub fn resolve_element(rules: Rules<'_>, asked: Question) -> Result<Option<Element>, Refusal>
+    ensures { result ≡ resolved_element rules.entry asked.rule asked.side asked.element }
 {
-    let rules = Rules {
-        pairs: Pairs::new(directory, words, bytes),
-        fact_bytes,
-    };
-    // Clearing tables for all that trees may have takes longer than resolving most rules.
-    if words.len() <= 3072 {
-        return resolve_in::<1024>(rules, number, side, element);
+    if tables::are_few(rules.pairs.word_count(), 0) {
+        return resolve_in::<FEW>(rules, asked);
     }
-    resolve_in::<16384>(rules, number, side, element)
+    resolve_in::<ALL>(rules, asked)
 }

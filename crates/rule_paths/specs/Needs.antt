@@ -3,7 +3,8 @@
 use Rattle.std.specs.Prelude.{ℕ, ◌/◌, ◌≤◌, ◌≡◌, true, false, List, map, length, min, Some}
 use Rattle.errors.specs.Refusals.{ok}
 use Rattle.parsing.specs.Reading.{Var}
-use Rattle.fragments.specs.Pairs.{Pair, pair_at, pairs_in}
+use Rattle.fragments.specs.declared.forms.Side.TheVariants.{Pattern}
+use Rattle.fragments.specs.Pairs.{Pair, text_of, pair_at, pairs_in}
 use Rattle.rules.specs.declared.numbering.Rule.{Rule}
 use Rattle.rules.specs.Forms.{template_tree, any, is_left}
 use Rattle.rules.specs.Stages.{trees_outcome}
@@ -19,9 +20,10 @@ Roomy n words = min (length words / 3) 16383 ≤ n
 abbrev pub Passed : ℕ → Pair → Type 0
 Passed bytes p = trees_outcome (Some bytes) p ≡ ok
 
--- such a pair beside the placeholders of its pattern
-pub record IsPassed (n : ℕ) (p : Pair) (vs : List Var) (bytes : ℕ) : Type 0 where
+-- such a pair beside the placeholders of its pattern and the text of their list
+pub record IsPassed (n : ℕ) (p : Pair) (vs : List Var) (text : List ℕ) (bytes : ℕ) : Type 0 where
   pub placeholders : vs ≡ pattern_vars p
+  pub of_list : text ≡ text_of Pattern p
   pub passed : Passed bytes p
   pub room : Roomy n p.words
 

@@ -1,7 +1,7 @@
 // A pair whose trees passed their checks.
 ghost use Rattle.std.specs.Prelude.{◌≡◌, true, ◌/◌, ◌≤◌, length, IfOk};
 ghost use Rattle.fragments.specs.declared.forms.Side.TheVariants as sides;
-ghost use Rattle.fragments.specs.Pairs.{tree_of, facts_of, is_present};
+ghost use Rattle.fragments.specs.Pairs.{text_of, tree_of, facts_of, is_present};
 ghost use Rattle.rules.specs.Forms.{template_tree};
 ghost use Rattle.paths.specs.Resolved.{resolving};
 ghost use Rattle.paths.specs.Tables.{HasFacts};
@@ -19,7 +19,6 @@ use rules::forms;
 use rules::forms::TemplateTree;
 use std::marker::Model;
 use syntax::trees::Tree;
-use tokens::TokenList;
 
 // The form of a template's tree, where a rule has one.
 pub fn template_form(form: Form, template: TemplateTree) -> Option<Form>
@@ -36,7 +35,7 @@ pub fn template_form(form: Form, template: TemplateTree) -> Option<Form>
 #[derive(Drop)]
 pub struct PassedPair<'a, const N: usize> {
     pair: Pair<'a>,
-    pattern: Pattern,
+    pattern: Pattern<'a>,
     fact_bytes: usize,
 }
 
@@ -50,7 +49,7 @@ impl<'a, const N: usize> Model for PassedPair<'a, N> {
     ghost use Rattle.parsing.specs.Vars.{vars_of};
     ghost use Rattle.rule_paths.specs.Needs.{IsPassed};
 
-    ghost invariant = { λ p. IsPassed N p.pair (vars_of p.pattern) p.fact_bytes };
+    ghost invariant = { λ p. IsPassed N p.pair (vars_of p.pattern) p.pattern.text.now p.fact_bytes };
 }
 
 impl<'a, const N: usize> PassedPair<'a, N> {
@@ -64,11 +63,7 @@ impl<'a, const N: usize> PassedPair<'a, N> {
         requires room { Roomy N pair.words }
         ensures { result ≡ pair.entry }
     {
-        let list = TokenList {
-            words: pair.list(Side::Pattern),
-            text: pair.text(Side::Pattern),
-        };
-        let pattern = reading::parse_pattern(list).unwrap();
+        let pattern = reading::parse_pattern(pair.list(Side::Pattern)).unwrap();
         PassedPair {
             pair,
             pattern,
@@ -84,8 +79,9 @@ impl<'a, const N: usize> PassedPair<'a, N> {
     }
 
     // What its pattern's list was read as.
-    pub fn pattern(&self) -> &Pattern
-        ensures { vars_of result.now ≡ pattern_vars self.now }
+    pub fn pattern(&self) -> &Pattern<'a>
+        ensures vars { vars_of result.now ≡ pattern_vars self.now }
+        ensures text { result.now.text.now ≡ text_of sides.Pattern self.now }
     {
         &self.pattern
     }
@@ -123,7 +119,6 @@ impl<'a, const N: usize> PassedPair<'a, N> {
         let rule_tree = RuleTree::new(
             self.tree(side, form),
             self.pair.code(side),
-            self.pair.text(Side::Pattern),
             &self.pattern,
             self.facts(side, form),
             &mut tables.index,

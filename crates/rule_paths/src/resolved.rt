@@ -53,7 +53,7 @@ impl<'a, const N: usize> ResolvedRule<'a, N> {
     }
 
     // What its pattern's list was read as.
-    pub fn pattern(&self) -> &Pattern
+    pub fn pattern(&self) -> &Pattern<'a>
         ensures { vars_of result.now ≡ pattern_vars self.now.pair }
     {
         self.pair.pattern()

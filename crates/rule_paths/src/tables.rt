@@ -1,7 +1,22 @@
 // What resolving works in.
-ghost use Rattle.std.specs.Prelude.{◌≤◌};
+ghost use Rattle.std.specs.Prelude.{◌≡◌, true, ◌≤◌};
 
 use paths::Noted;
+
+// Tables for so many elements and facts of rules' trees, and an index for so many facts of a file, are enough where these are few; the
+// others are for all that trees may have. Clearing those takes longer than most calls.
+pub const FEW: usize = 1024;
+
+pub const FEW_FACTS: usize = 2048;
+
+pub const ALL: usize = 16384;
+
+// Whether the words of the rules' trees, and those of a file's facts, are few.
+pub fn are_few(words: usize, facts: usize) -> bool
+    ensures { result ≡ true → (words ≤ 3072) × (facts ≤ 8192) }
+{
+    (words <= 3 * FEW) & (facts <= 4 * FEW_FACTS)
+}
 
 // The index of a tree's facts, and what is noted of its elements; there is room for N of each. They are of the tree that was resolved last.
 #[derive(Drop)]

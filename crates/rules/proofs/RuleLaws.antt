@@ -1,7 +1,8 @@
 -- The rules left, one pair after the other.
 -- Assumes nothing.
-use Rattle.std.proofs.Common.{◌≡◌, refl, ap, ◌∙◌, List, [], ◌∷◌, ◌++◌, map, ℕ, zero, suc, ◌+◌, ◌-◌, ◌≤◌, ◌<◌, Some, None, slice_get, length, length-append, arith}
+use Rattle.std.proofs.Common.{◌≡◌, refl, sym, ap, ◌∙◌, sum_by, List, [], ◌∷◌, ◌++◌, map, ℕ, zero, suc, ◌+◌, ◌-◌, ◌≤◌, ◌<◌, Some, None, slice_get, length, length-append, arith}
 use Rattle.std.proofs.lemmas.List.{length-map}
+use Rattle.std.proofs.lemmas.List.Sums.{sum_by-cons}
 use Rattle.std.proofs.lemmas.Option.{slice_get-map}
 use Rattle.fragments.specs.declared.forms.Form.{Form}
 use Rattle.fragments.specs.Pairs.{Pair}
@@ -32,6 +33,11 @@ pub count_next : (k : ℕ) (p : Pair) (ps : List Pair) → length (rules_from k 
 count_next k p ps =
     ap length (rules_cons k p ps)
     ∙ rw (length-append (map (rule_of k p) (forms_left p)) (rules_from (k + 1) ps), length-map (forms_left p) (rule_of k p), count-any (k + 1) k ps)
+
+-- all of them, as a sum
+pub count_sum : (k : ℕ) (ps : List Pair) → length (rules_from k ps) ≡ sum_by (λ p. length (forms_left p)) ps
+count_sum k [] = count_none k
+count_sum k (p ∷ ps) = count_next k p ps ∙ ap (λ (n : ℕ). length (forms_left p) + n) (count_sum k ps) ∙ sym (sum_by-cons (λ (q : Pair). length (forms_left q)) p ps)
 
 -- an element of two lists in turn
 get_left : {X : Type 0} (xs ys : List X) (q : ℕ) (x : X) → slice_get xs q ≡ Some x → slice_get (xs ++ ys) q ≡ Some x

@@ -17,15 +17,14 @@ pub struct Rule {
 }
 
 // How many rules are left.
-#[tactic(auto, using(crate::proofs::RuleLaws::count_next, crate::proofs::RuleLaws::count_none))]
+#[tactic(auto, using(crate::proofs::RuleLaws::count_sum))]
 pub fn count_rules(pairs: &Pairs) -> usize
     ensures { result ≡ length (rules (pairs_in pairs.now)) }
 {
-    let mut count = 0;
-    for pair in pairs {
-        count += forms::left_forms(&pair).len();
-    }
-    count
+    pairs
+        .iter()
+        .map(|pair| forms::left_forms(&pair).len())
+        .sum()
 }
 
 // The rule of a number.

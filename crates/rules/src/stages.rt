@@ -3,7 +3,7 @@ ghost use Rattle.std.specs.Prelude.{◌≡◌, option_map};
 ghost use Rattle.errors.specs.Refusals.{lowest};
 ghost use Rattle.fragments.specs.Forms.{five};
 ghost use Rattle.fragments.specs.Pairs.{pairs_in};
-ghost use Rattle.trees.specs.Given.{parts_of};
+ghost use Rattle.tokens.specs.Tokens.{parts_of};
 ghost use Rattle.rules.specs.Stages.{given_list, owner_of, form_outcome, lists_outcome, side_outcome, trees_outcome, forms_outcome, pair_stage, stage_outcome, rules_outcome};
 
 use crate::forms;
@@ -12,6 +12,8 @@ use facts::Owner;
 use fragments::forms::{Form, Side};
 use fragments::pairs::{Pair, Pairs};
 use tokens::TokenList;
+use tree_checks::TreeText;
+use trees::GivenTree;
 
 // A stage of checks.
 #[derive(Clone, Copy, Debug, PartialEq, Eq)]
@@ -41,53 +43,43 @@ fn given_list<'a>(pair: &Pair<'a>, side: Side) -> Option<TokenList<'a>>
     if !pair.is_given(side) {
         return None;
     }
-    Some(TokenList {
-        words: pair.list(side),
-        text: pair.text(side),
-    })
+    Some(pair.list(side))
 }
 
-// A form's tree on a side, over a code of some bytes.
+// A form's tree on a side, over the side's code.
 fn check_form(
     pair: &Pair,
     side: Side,
     form: Form,
-    right_text: bool,
-    bytes: usize,
+    code: TreeText,
     fact_bytes: Option<usize>,
 ) -> Result<(), Refusal>
-    ensures { result ≡ form_outcome fact_bytes pair.now side right_text bytes form }
+    ensures { result ≡ form_outcome fact_bytes pair.now side code.is_right code.bytes form }
 {
-    let facts = if fact_bytes.is_some() {
-        pair.facts(side, form)
-    } else {
-        &[]
+    let (facts, fact_bytes) = match fact_bytes {
+        Some(bytes) => (pair.facts(side, form), bytes),
+        None => (&[][..], 0),
     };
-    trees::check_rule_tree(
-        owner_of(side),
-        right_text,
-        pair.tree(side, form),
-        bytes,
+    let tree = GivenTree {
+        owner: owner_of(side),
+        words: pair.tree(side, form),
         facts,
-        fact_bytes.unwrap_or(0),
-    )
+        fact_bytes,
+    };
+    tree.check_rule_tree(code)
 }
 
 // The trees of a side.
 fn check_forms(
     pair: &Pair,
     side: Side,
-    right_text: bool,
-    bytes: usize,
+    code: TreeText,
     fact_bytes: Option<usize>,
 ) -> Result<(), Refusal>
-    ensures { result ≡ lowest (five (form_outcome fact_bytes pair.now side right_text bytes)) }
+    ensures { result ≡ lowest (five (form_outcome fact_bytes pair.now side code.is_right code.bytes)) }
 {
     Form::ALL.iter().fold(Ok(()), |lowest, form| {
-        errors::lowest(
-            lowest,
-            check_form(pair, side, *form, right_text, bytes, fact_bytes),
-        )
+        errors::lowest(lowest, check_form(pair, side, *form, code, fact_bytes))
     })
 }
 
@@ -97,8 +89,11 @@ fn check_side(pair: &Pair, side: Side, fact_bytes: Option<usize>) -> Result<(), 
     ensures { result ≡ side_outcome fact_bytes pair.now side }
 {
     let code = pair.code(side);
-    let right_text = trees::has_right_text(given_list(pair, side), code)?;
-    check_forms(pair, side, right_text, code.len(), fact_bytes)
+    let text = TreeText {
+        is_right: trees::has_right_text(given_list(pair, side), code)?,
+        bytes: code.len(),
+    };
+    check_forms(pair, side, text, fact_bytes)
 }
 
 // The trees of a pair.
@@ -115,11 +110,7 @@ fn check_trees(pair: &Pair, fact_bytes: Option<usize>) -> Result<(), Refusal>
 fn check_lists(pair: &Pair) -> Result<(), Refusal>
     ensures { result ≡ lists_outcome pair.now }
 {
-    let pattern = TokenList {
-        words: pair.list(Side::Pattern),
-        text: pair.text(Side::Pattern),
-    };
-    validating::validate_rule(pattern, given_list(pair, Side::Template))
+    validating::validate_rule(pair.list(Side::Pattern), given_list(pair, Side::Template))
 }
 
 // Whether a form of a pair is a rule.

@@ -35,9 +35,10 @@ fn lay_placeholder(
 }
 
 // Lays the raw code of a list from the buffer's front.
-fn lay_code(out: &mut [u8], text: &[u8], pattern: &Pattern) -> Option<usize>
-    ensures { Lays out.old 0 (segments text.now (length text.now) 0 (vars_of pattern.now)) result out.new }
+fn lay_code(out: &mut [u8], pattern: &Pattern<'_>) -> Option<usize>
+    ensures { Lays out.old 0 (segments pattern.now.text.now (length pattern.now.text.now) 0 (vars_of pattern.now)) result out.new }
 {
+    let text = pattern.text;
     let mut at = 0;
     let mut from = 0;
     for placeholder in pattern.placeholders.as_slice() {
@@ -53,7 +54,7 @@ fn write_code(list: TokenList, out: &mut [u8]) -> Result<usize, Refusal>
     ensures bytes { take (written_length result) out.new ≡ code_bytes (length out.old) list.entry.text.now (reading list.entry.words.now list.entry.text.now) }
 {
     let pattern = reading::parse_pattern(list)?;
-    lay_code(out, list.text, &pattern).ok_or(Refusal::DoesNotFit)
+    lay_code(out, &pattern).ok_or(Refusal::DoesNotFit)
 }
 
 // Writing raw code: the code and then 0 in the used part of the buffer, or the refusal of the list, or 16.
@@ -68,9 +69,9 @@ pub fn as_rust_code(list: TokenList, out: &mut [u8]) -> Result<usize, Refusal>
 }
 
 // The placeholder whose stand-in name a text is.
-pub fn find_stand_in(text: &[u8], pattern: &Pattern, x: &[u8]) -> Option<usize>
-    ensures { result ≡ stand_in_position text.now (vars_of pattern.now) x.now }
+pub fn find_stand_in(pattern: &Pattern<'_>, x: &[u8]) -> Option<usize>
+    ensures { result ≡ stand_in_position pattern.now.text.now (vars_of pattern.now) x.now }
 {
     let name = x.strip_prefix(texts::STAND_IN_PREFIX)?;
-    pattern.find_name(text, name)
+    pattern.find_name(name)
 }

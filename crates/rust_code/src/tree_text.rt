@@ -10,6 +10,7 @@ ghost use Rattle.rust_code.specs.Trim.{Trimmed};
 ghost use Rattle.rust_code.specs.Segments.{segment, segments, Strips};
 
 use parsing::patterns::{Pattern, Placeholder};
+use syntax::kinds::WHITESPACE;
 use tokens::TokenList;
 use words::slices;
 use words::texts::{Range, STAND_IN_PREFIX};
@@ -29,7 +30,7 @@ fn strip_placeholder<'a>(
 }
 
 // Whether a text is the code of a range of the list's text.
-fn is_code_of(text: &[u8], range: Range, pattern: &Pattern, code: &[u8]) -> bool
+fn is_code_of(text: &[u8], range: Range, pattern: &Pattern<'_>, code: &[u8]) -> bool
     ensures { result ≡ same_text (segments text.now range.end range.start (vars_of pattern.now)) code.now }
 {
     let mut from = range.start;
@@ -51,7 +52,7 @@ fn trimmed(list: TokenList) -> Range
 {
     let mut inner: Option<Range> = None;
     for token in list.tokens() {
-        if token.kind != tokens::WHITESPACE {
+        if token.kind != WHITESPACE {
             let start = inner.unwrap_or(token.range).start;
             inner = Some(Range {
                 start,
@@ -59,11 +60,11 @@ fn trimmed(list: TokenList) -> Range
             });
         }
     }
-    inner.unwrap_or(Range { start: 0, end: 0 })
+    inner.unwrap_or_default()
 }
 
 // Whether a text is a read list's raw code without WHITESPACE tokens at its ends. The code is not built.
-pub fn is_tree_text(list: TokenList, pattern: &Pattern, code: &[u8]) -> bool
+pub fn is_tree_text(list: TokenList, pattern: &Pattern<'_>, code: &[u8]) -> bool
     requires { is_token_list list.words.now list.text.now ≡ true }
     ensures { (es : List Element) → reading list.entry.words.now list.entry.text.now ≡ read es → vars es ≡ vars_of pattern.now → result ≡ same_text (tree_text list.entry.text.now es) code.now }
 {

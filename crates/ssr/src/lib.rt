@@ -10,7 +10,7 @@ ghost use Rattle.std.specs.Prelude.{◌≡◌, length, option_map};
 ghost use Rattle.words.specs.Buffer.{used_of, filled};
 ghost use Rattle.parsing.specs.Reading.{reading};
 ghost use Rattle.rust_code.specs.RawCode.{code_answer, code_bytes};
-ghost use Rattle.trees.specs.Given.{parts_of};
+ghost use Rattle.tokens.specs.Tokens.{parts_of};
 ghost use Rattle.exports.specs.Lists.{tokens_read, code_written};
 ghost use Rattle.ssr.specs.Exports.{list_if, side_of, pair_number, file_number, rule_tree_number};
 
@@ -20,7 +20,7 @@ use fragments::forms::Side;
 use parsing::reading;
 use rules::stages;
 use tokens::TokenList;
-use trees::GivenFile;
+use trees::{GivenFile, GivenTree};
 
 // Reading tokens.
 pub fn ssr_read_tokens(words: &[u32], text: &[u8]) -> ReadTokens
@@ -33,10 +33,7 @@ pub fn ssr_read_tokens(words: &[u32], text: &[u8]) -> ReadTokens
 fn list_if<'a>(given: u32, words: &'a [u32], text: &'a [u8]) -> Option<TokenList<'a>>
     ensures { option_map parts_of result ≡ list_if given words.now text.now }
 {
-    if given == 0 {
-        return None;
-    }
-    Some(TokenList { words, text })
+    (given != 0).then_some(TokenList { words, text })
 }
 
 // Checking a pair, whose template is given unless the flag is 0: 01's number.
@@ -85,8 +82,11 @@ pub fn ssr_check_rule_tree(
 ) -> u32
     ensures { result ≡ rule_tree_number given list.now text.now side words.now code.now facts.now fact_text.now }
 {
-    let owner = stages::owner_of(side_of(side));
-    let list = list_if(given, list, text);
-    let bytes = fact_text.len();
-    outcome_number(trees::check_given_tree(list, owner, words, code, facts, bytes))
+    let tree = GivenTree {
+        owner: stages::owner_of(side_of(side)),
+        words,
+        facts,
+        fact_bytes: fact_text.len(),
+    };
+    outcome_number(tree.check_given_tree(list_if(given, list, text), code))
 }

@@ -5,8 +5,10 @@ ghost use Rattle.checks.specs.Given.{rules_of, file_of};
 ghost use Rattle.match_node.specs.MatchNode.{matched_node, buffer_after};
 ghost use Rattle.exports.specs.Matches.{restriction, node_matched};
 
+use checks::Rules;
 use exports::match_answers::MatchedNode;
 use exports::ranges;
+use fragments::pairs::Pairs;
 use match_node::match_node;
 use rule_match::Question;
 use trees::GivenFile;
@@ -37,14 +39,9 @@ pub fn ssr_match_node(
         text,
         facts,
     };
-    match_node(
-        directory,
-        words,
-        bytes,
-        fact_text.len(),
-        file,
-        question,
-        out,
-    )
-    .into()
+    let rules = Rules {
+        pairs: Pairs::new(directory, words, bytes),
+        fact_bytes: fact_text.len(),
+    };
+    match_node(rules, file, question, out).into()
 }

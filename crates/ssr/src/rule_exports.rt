@@ -6,9 +6,10 @@ ghost use Rattle.resolving.specs.Resolving.{resolved_element};
 ghost use Rattle.rules.specs.Building.{built_rules};
 ghost use Rattle.exports.specs.Rules.{rules_built, element_resolved};
 
+use checks::Rules;
 use exports::rule_answers::{BuiltRules, ResolvedElement};
 use fragments::pairs::Pairs;
-use resolving::resolve_element;
+use resolving::{Question, resolve_element};
 use rules::building;
 
 // Building rules, with the number of a rule that is asked for.
@@ -30,14 +31,14 @@ pub fn ssr_resolve(
 ) -> ResolvedElement
     ensures { result ≡ element_resolved (resolved_element (rules_of directory.now words.now bytes.now (length fact_text.now)) rule side element) }
 {
-    resolve_element(
-        directory,
-        words,
-        bytes,
-        fact_text.len(),
+    let rules = Rules {
+        pairs: Pairs::new(directory, words, bytes),
+        fact_bytes: fact_text.len(),
+    };
+    let asked = Question {
         rule,
         side,
         element,
-    )
-    .into()
+    };
+    resolve_element(rules, asked).into()
 }

@@ -53,6 +53,8 @@ pub const R_BRACK: u32 = 7;
 
 pub const DOLLAR: u32 = 8;
 
+pub const L_CURLY: u32 = 9;
+
 pub const COLON: u32 = 10;
 
 pub const SELF_KW: u32 = 11;
@@ -93,4 +95,9 @@ pub const NODES: Kinds = Kinds { low: 1, high: 4095 };
 pub const EXPRESSIONS: Kinds = Kinds {
     low: 64,
     high: 1023,
+};
+
+pub const ITEMS: Kinds = Kinds {
+    low: 1024,
+    high: 2047,
 };

@@ -1,4 +1,5 @@
-// A part of a tree's words is siblings in turn. Every method is total: on any words it goes where the decoder goes.
+// A part of a tree's words is siblings in turn. Every method but `behind`, which asks for room, is total: on any words it
+// goes where the decoder goes.
 ghost use Rattle.std.specs.Prelude.{◌≡◌, ℕ, ◌+◌, ◌-◌, ◌*◌, ◌≤◌, length, drop, not, ltb, []};
 ghost use Rattle.syntax.specs.Parts.{span, child_words, rest_words, end_of_first};
 
@@ -148,7 +149,7 @@ impl<'a> Part<'a> {
         ensures { result ≡ range_of (elems_of self.entry) }
     {
         if self.is_empty() {
-            return Range { start: 0, end: 0 };
+            return Range::default();
         }
         Range {
             start: fields::start(self.words),

@@ -35,13 +35,6 @@ impl<'a> Tree<'a> {
         Tree { words }
     }
 
-    // Its words.
-    pub fn words(self) -> &'a [u32]
-        ensures { result.now ≡ self.entry.words.now }
-    {
-        self.words
-    }
-
     // How many elements it has.
     #[tactic(auto, using(crate::proofs::FormedLaws::whole, crate::proofs::FormedLaws::few, crate::proofs::ViewLaws::size_is))]
     pub fn len(self) -> usize

@@ -3,7 +3,8 @@ ghost use Rattle.std.specs.Prelude.{◌≡◌, ◌≤◌, ◌<◌, length, IfSom
 ghost use Rattle.syntax.specs.Views.{elems_of, IsWithin};
 ghost use Rattle.token_trees.specs.Runs.{is_stop, run, run_of};
 
-use matcher::{Matcher, token_matching};
+use matcher::Matcher;
+use matcher::token_matching::TokenText;
 use syntax::kinds::ElementKind;
 use syntax::parts::Part;
 use words::fields;
@@ -26,9 +27,7 @@ fn is_stop(x: &Matcher, stop: Part, c: Part) -> bool
     if stop.is_empty() | first.is_empty() {
         return false;
     }
-    let text = stop.text(x.rule);
-    let other = first.text(x.file);
-    token_matching::same_stop(stop.kind(), text, first.kind(), other)
+    TokenText::of(stop, x.rule).is_same_stop(TokenText::of(first, x.file))
 }
 
 // The run that begins with the first of the code's siblings, where the pattern goes on with some. A run stops where a stop is met, but for

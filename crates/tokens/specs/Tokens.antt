@@ -5,6 +5,7 @@ use Rattle.std.specs.Prelude.{ℕ, ◌+◌, Bool, true, ◌&&◌, List, [], ◌�
 use Rattle.words.specs.Fields.{kind_at, token_kind, token_length}
 use Rattle.words.specs.Texts.{part}
 use Rattle.tokens.specs.declared.Token.{Token}
+use Rattle.tokens.specs.declared.TokenList.{TokenList}
 
 -- the token that a part of the words begins with, at a byte, and the tokens of a part
 abbrev pub token_at : List ℕ → ℕ → Token
@@ -33,3 +34,7 @@ total_length (w ∷ ws) = token_length (w ∷ ws) + total_length ws
 
 unfoldable pub is_token_list : List ℕ → List ℕ → Bool
 is_token_list words text = leb (length words) 255 && all_token_words words && eqb (total_length words) (length text)
+
+-- a list as it is handed in: its words, and its text
+abbrev pub parts_of : TokenList → List ℕ × List ℕ
+parts_of l = (l.words.now, l.text.now)

@@ -1,26 +1,15 @@
 // Token lists: the tokens of a list of words, and whether the list is well-formed.
 #![tactic(auto)]
 
-ghost use Rattle.std.specs.Prelude.{◌≡◌, ◌≤◌, true, length};
+ghost use Rattle.std.specs.Prelude.{◌≡◌, ◌≤◌, true, length, ◌∷◌, []};
 ghost use Rattle.std.specs.Iterator.{YieldsFirst, item_count};
-ghost use Rattle.tokens.specs.Tokens.{token_text, tokens_from, is_token_word, is_token_list};
+ghost use Rattle.tokens.specs.Tokens.{token_text, tokens_from, is_token_word, all_token_words, total_length, is_token_list};
 
 use std::marker::Model;
+use syntax::kinds::TOKENS;
 use words::fields;
+use words::fields::WordKind;
 use words::texts::Range;
-
-// The token kinds of document 01 that rules are read and trimmed by.
-pub const IDENT: u32 = 1;
-
-pub const WHITESPACE: u32 = 2;
-
-pub const RIGHT_BRACE: u32 = 6;
-
-pub const DOLLAR: u32 = 8;
-
-pub const LEFT_BRACE: u32 = 9;
-
-pub const COLON: u32 = 10;
 
 // A token of a list: its kind, and where its text stands in the list's text.
 #[derive(Clone, Copy, Debug, PartialEq, Eq)]
@@ -47,7 +36,7 @@ pub struct TokenList<'a> {
 
 impl<'a> TokenList<'a> {
     // Whether words and text are a token list: at most 255 tokens, whose texts fill the text.
-    #[tactic(auto, unfolding(crate::specs::Tokens::is_token_list, crate::specs::Tokens::all_token_words, crate::specs::Tokens::total_length))]
+    #[tactic(auto, unfolding(crate::specs::Tokens::is_token_list))]
     pub fn is_well_formed(self) -> bool
         ensures value { result ≡ is_token_list self.entry.words.now self.entry.text.now }
         ensures few { result ≡ true → length self.entry.words.now ≤ 255 }
@@ -55,16 +44,7 @@ impl<'a> TokenList<'a> {
         if 255 < self.words.len() {
             return false;
         }
-        let mut total: usize = 0;
-        let mut left = self.words;
-        while let [_, rest @ ..] = left {
-            if !is_token_word(left) {
-                return false;
-            }
-            total += fields::token_length(left);
-            left = rest;
-        }
-        total == self.text.len()
+        are_token_words(self.words) && total_length(self.words) == self.text.len()
     }
 
     // The tokens in order.
@@ -111,9 +91,9 @@ impl<'a> Iterator for Tokens<'a> {
     fn next(&mut self) -> Option<Token> {
         let (_, rest) = self.words.split_first()?;
         let start = self.at;
-        let end = start + fields::token_length(self.words);
+        let end = start + fields::size(self.words);
         let token = Token {
-            kind: fields::token_kind(self.words),
+            kind: fields::syntax_kind(self.words),
             range: Range { start, end },
         };
         self.words = rest;
@@ -122,10 +102,28 @@ impl<'a> Iterator for Tokens<'a> {
     }
 }
 
-// Whether the word that a part begins with is a token's.
-fn is_token_word(c: &[u32]) -> bool
-    ensures { result ≡ is_token_word c.now }
+// Whether a word is a token's.
+fn is_token_word(word: u32) -> bool
+    ensures { result ≡ is_token_word (word ∷ []) }
 {
-    let kind = fields::token_kind(c);
-    (fields::kind(c, 0) == 2) & (1 <= kind) & (kind <= 1023) & (1 <= fields::token_length(c))
+    let c = &[word];
+    fields::has_kind(c, 0, WordKind::Token)
+        & TOKENS.contains(fields::syntax_kind(c))
+        & (1 <= fields::size(c))
+}
+
+// Whether all words are.
+fn are_token_words(words: &[u32]) -> bool
+    ensures { result ≡ all_token_words words.now }
+{
+    words.iter().all(|word| is_token_word(*word))
+}
+
+// How many bytes the texts of all tokens have.
+#[tactic(auto, using(crate::proofs::Laws::length_words))]
+fn total_length(words: &[u32]) -> usize
+    requires { length words.now ≤ 255 }
+    ensures { result ≡ total_length words.now }
+{
+    words.iter().map(|word| fields::size(&[*word])).sum()
 }

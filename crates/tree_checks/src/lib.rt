@@ -15,6 +15,7 @@ use syntax::parts;
 use syntax::parts::Part;
 use syntax::trees::Tree;
 use words::fields;
+use words::fields::WordKind;
 
 // What follows the first element; none where it is longer than the part.
 // A token is passed without a look at its size, so that the next element need not wait for it.
@@ -55,7 +56,7 @@ fn are_in_row(part: &[u32], from: usize, to: usize) -> bool
 fn is_ranged(c: &[u32]) -> bool
     ensures { result ≡ is_ranged c.now }
 {
-    fields::kind(c, 1) == 3 && fields::kind(c, 2) == 4
+    fields::has_kind(c, 1, WordKind::Start) && fields::has_kind(c, 2, WordKind::End)
 }
 
 // Whether a token has size 1 and a token's kind, and is not empty.
@@ -154,16 +155,23 @@ fn is_shallow(part: Part, levels: usize) -> bool
     true
 }
 
-// 18, 19 and 20 of a tree over a text of some bytes; another text than the one it should be is 19.
+// The text of a tree: how many bytes it has, and whether it is the one that it should be.
+#[derive(Clone, Copy)]
+pub struct TreeText {
+    pub bytes: usize,
+    pub is_right: bool,
+}
+
+// 18, 19 and 20 of a tree over a text; another text than the one it should be is 19.
 #[tactic(auto, unfolding(errors::specs::Refusals::first_of))]
-pub fn check_tree<'a>(words: &'a [u32], bytes: usize, right_text: bool) -> Result<Tree<'a>, Refusal>
-    ensures accepted { IfOk result (λ t. (t.words.now ≡ words.now) × (tree_outcome right_text bytes words.now ≡ ok)) }
-    ensures refused { IfErr result (λ r. tree_outcome right_text bytes words.now ≡ err r) }
+pub fn check_tree(words: &[u32], text: TreeText) -> Result<Tree<'_>, Refusal>
+    ensures accepted { IfOk result (λ t. (t.words.now ≡ words.now) × (tree_outcome text.is_right text.bytes words.now ≡ ok)) }
+    ensures refused { IfErr result (λ r. tree_outcome text.is_right text.bytes words.now ≡ err r) }
 {
-    if 16383 < words.len() / 3 || 65535 < bytes {
+    if 16383 < words.len() / 3 || 65535 < text.bytes {
         return Err(Refusal::TreeTooLarge);
     }
-    if !right_text || !is_tree(words, bytes) {
+    if !text.is_right || !is_tree(words, text.bytes) {
         return Err(Refusal::MalformedTree);
     }
     if !is_shallow(Part::new(words), 128) {

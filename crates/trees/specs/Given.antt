@@ -7,7 +7,6 @@ use Rattle.errors.specs.declared.Refusal.{Refusal}
 use Rattle.errors.specs.declared.Refusal.TheVariants.{MalformedFacts}
 use Rattle.errors.specs.Refusals.{Check, first_of}
 use Rattle.words.specs.Texts.{same_text}
-use Rattle.tokens.specs.declared.TokenList.{TokenList}
 use Rattle.parsing.specs.Reading.{Element, Reading, reading}
 use Rattle.rust_code.specs.RawCode.{tree_text}
 use Rattle.syntax.specs.Trees.{tree}
@@ -38,10 +37,6 @@ rule_outcome owner has_right_text l n facts m =
 -- "its list's raw code without WHITESPACE tokens at its ends (another text is 19)"
 abbrev pub has_right_text : List ℕ → List Element → List ℕ → Bool
 has_right_text text es code = same_text (tree_text text es) code
-
--- a list's words and its text
-abbrev pub parts_of : TokenList → List ℕ × List ℕ
-parts_of list = (list.words.now, list.text.now)
 
 -- whether a rule's code is the right text, or the refusal of its list; without a list no text is the right one
 abbrev pub text_read : List ℕ → Reading → List ℕ → Result Bool Refusal

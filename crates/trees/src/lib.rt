@@ -1,17 +1,20 @@
 // Trees with their facts, wherever they are given: 18 to 21 of the file's and of a rule's.
 #![tactic(auto)]
 
-ghost use Rattle.std.specs.Prelude.{◌≡◌, ◌↔◌, ◌/◌, ◌≤◌, length, option_map, IfOk};
+ghost use Rattle.std.specs.Prelude.{◌≡◌, true, ◌↔◌, ◌/◌, ◌≤◌, length, option_map, IfOk};
 ghost use Rattle.errors.specs.Refusals.{ok};
+ghost use Rattle.tokens.specs.Tokens.{parts_of};
 ghost use Rattle.facts.specs.declared.Owner.TheVariants as owners;
-ghost use Rattle.trees.specs.Given.{with_facts, file_outcome, rule_outcome, parts_of, right_text, given_outcome, Stands, outcome_of, Holds};
+ghost use Rattle.trees.specs.Given.{with_facts, file_outcome, rule_outcome, right_text, given_outcome, Stands, outcome_of, Holds};
 
 use errors::Refusal;
+use fact_checks::FactTree;
 use facts::{Facts, Owner};
 use parsing::reading;
 use rust_code::tree_text;
 use syntax::trees::Tree;
 use tokens::TokenList;
+use tree_checks::TreeText;
 
 // A file as it is handed in: the words of its tree, its text, and the words of its facts.
 #[derive(Clone, Copy)]
@@ -29,20 +32,23 @@ pub struct File<'a> {
     pub facts: Facts<'a>,
 }
 
-// 18 to 20 of a tree over a text of some bytes, then 21 of its facts.
-#[tactic(auto, using(crate::proofs::GivenLaws::tree_decides, crate::proofs::GivenLaws::facts_decide))]
-fn check_with_facts(
-    owner: Owner,
-    right_text: bool,
-    words: &[u32],
-    bytes: usize,
-    facts: &[u32],
-    fact_bytes: usize,
-) -> Result<(), Refusal>
-    ensures { result ≡ with_facts owner right_text bytes words.now facts.now fact_bytes }
+// A tree as it is handed in: whose it is, its words, the words of its facts, and how many bytes the text has that these point into.
+#[derive(Clone, Copy)]
+pub struct GivenTree<'a> {
+    pub owner: Owner,
+    pub words: &'a [u32],
+    pub facts: &'a [u32],
+    pub fact_bytes: usize,
+}
+
+// The text of a file's tree, which is the file's own.
+fn text_of(file: GivenFile) -> TreeText
+    ensures { result ≡ record { bytes = length file.entry.text.now; is_right = true } }
 {
-    let tree = tree_checks::check_tree(words, bytes, right_text)?;
-    fact_checks::check_facts(owner, tree, facts, fact_bytes)
+    TreeText {
+        bytes: file.text.len(),
+        is_right: true,
+    }
 }
 
 // The file's tree with its facts.
@@ -51,14 +57,13 @@ pub fn check_file(file: GivenFile) -> Result<(), Refusal>
     ensures value { result ≡ file_outcome file.entry.words.now file.entry.text.now file.entry.facts.now }
     ensures variant { (result ≡ ok) ↔ Stands owners.File (length file.entry.text.now) file.entry.words.now file.entry.facts.now 0 }
 {
-    check_with_facts(
-        Owner::File,
-        true,
-        file.words,
-        file.text.len(),
-        file.facts,
-        0,
-    )
+    let tree = GivenTree {
+        owner: Owner::File,
+        words: file.words,
+        facts: file.facts,
+        fact_bytes: 0,
+    };
+    tree.check_with_facts(text_of(file))
 }
 
 // The same, and the file with the index of its facts where it is accepted.
@@ -71,34 +76,18 @@ pub fn check_and_index_file<'a>(
     ensures value { outcome_of result ≡ file_outcome file.entry.words.now file.entry.text.now file.entry.facts.now }
     ensures file { IfOk result (Holds file.entry) }
 {
-    let tree = tree_checks::check_tree(file.words, file.text.len(), true)?;
-    let facts = fact_checks::check_and_index(Owner::File, tree, file.facts, 0, index)?;
+    let tree = tree_checks::check_tree(file.words, text_of(file))?;
+    let on = FactTree {
+        owner: Owner::File,
+        tree,
+        bytes: 0,
+    };
+    let facts = on.check_and_index(file.facts, index)?;
     Ok(File {
         tree,
         text: file.text,
         facts,
     })
-}
-
-// A rule's tree with its facts; one without words is absent.
-#[tactic(auto, unfolding(errors::specs::Refusals::first_of))]
-pub fn check_rule_tree(
-    owner: Owner,
-    right_text: bool,
-    words: &[u32],
-    bytes: usize,
-    facts: &[u32],
-    fact_bytes: usize,
-) -> Result<(), Refusal>
-    ensures { result ≡ rule_outcome owner right_text words.now bytes facts.now fact_bytes }
-{
-    if !words.is_empty() {
-        return check_with_facts(owner, right_text, words, bytes, facts, fact_bytes);
-    }
-    if !facts.is_empty() {
-        return Err(Refusal::MalformedFacts);
-    }
-    Ok(())
 }
 
 // Whether a rule's code is its list's text, or the list's refusal; without a list no text is the right one.
@@ -112,17 +101,42 @@ pub fn has_right_text(list: Option<TokenList>, code: &[u8]) -> Result<bool, Refu
     Ok(tree_text::is_tree_text(list, &pattern, code))
 }
 
-// A rule's tree with its list, which is given or not, and its facts.
-pub fn check_given_tree(
-    list: Option<TokenList>,
-    owner: Owner,
-    words: &[u32],
-    code: &[u8],
-    facts: &[u32],
-    fact_bytes: usize,
-) -> Result<(), Refusal>
-    ensures { result ≡ given_outcome (option_map parts_of list.entry) owner words.now code.now facts.now fact_bytes }
-{
-    let right = has_right_text(list, code)?;
-    check_rule_tree(owner, right, words, code.len(), facts, fact_bytes)
+impl GivenTree<'_> {
+    // 18 to 20 of the tree over a text, then 21 of its facts.
+    #[tactic(auto, using(crate::proofs::GivenLaws::tree_decides, crate::proofs::GivenLaws::facts_decide))]
+    fn check_with_facts(self, text: TreeText) -> Result<(), Refusal>
+        ensures { result ≡ with_facts self.entry.owner text.is_right text.bytes self.entry.words.now self.entry.facts.now self.entry.fact_bytes }
+    {
+        let on = FactTree {
+            owner: self.owner,
+            tree: tree_checks::check_tree(self.words, text)?,
+            bytes: self.fact_bytes,
+        };
+        on.check_facts(self.facts)
+    }
+
+    // A rule's tree with its facts; one without words is absent.
+    #[tactic(auto, unfolding(errors::specs::Refusals::first_of))]
+    pub fn check_rule_tree(self, text: TreeText) -> Result<(), Refusal>
+        ensures { result ≡ rule_outcome self.entry.owner text.is_right self.entry.words.now text.bytes self.entry.facts.now self.entry.fact_bytes }
+    {
+        if !self.words.is_empty() {
+            return self.check_with_facts(text);
+        }
+        if !self.facts.is_empty() {
+            return Err(Refusal::MalformedFacts);
+        }
+        Ok(())
+    }
+
+    // A rule's tree over a code, with its list, which is given or not, and its facts.
+    pub fn check_given_tree(self, list: Option<TokenList>, code: &[u8]) -> Result<(), Refusal>
+        ensures { result ≡ given_outcome (option_map parts_of list.entry) self.entry.owner self.entry.words.now code.now self.entry.facts.now self.entry.fact_bytes }
+    {
+        let is_right = has_right_text(list, code)?;
+        self.check_rule_tree(TreeText {
+            bytes: code.len(),
+            is_right,
+        })
+    }
 }

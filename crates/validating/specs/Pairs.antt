@@ -6,7 +6,6 @@ use Rattle.std.specs.List.{list_any, list_all}
 use Rattle.errors.specs.declared.Refusal.{Refusal}
 use Rattle.errors.specs.declared.Refusal.TheVariants.{TemplateConstraint, UndefinedPlaceholder}
 use Rattle.errors.specs.Refusals.{Outcome, ok, err, lowest_of}
-use Rattle.tokens.specs.declared.TokenList.{TokenList}
 use Rattle.tokens.specs.Tokens.{token_text}
 use Rattle.parsing.specs.Reading.{Var, has_name, placeholders}
 
@@ -37,10 +36,6 @@ both_lists pattern (Ok ps) template (Ok ts) = checked_pair pattern ps template t
 abbrev pub list_outcome : Result (List Var) Refusal → Outcome
 list_outcome (Ok ps) = ok
 list_outcome (Err r) = err r
-
--- a list's words and its text
-abbrev pub parts_of : TokenList → List ℕ × List ℕ
-parts_of l = (l.words.now, l.text.now)
 
 -- the pair of the lists, or the pattern alone where no template is given
 abbrev pub pair_outcome : List ℕ → List ℕ → Option (List ℕ × List ℕ) → Outcome

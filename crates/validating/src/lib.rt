@@ -2,9 +2,10 @@
 #![tactic(auto)]
 
 ghost use Rattle.std.specs.Prelude.{◌≡◌, option_map};
+ghost use Rattle.tokens.specs.Tokens.{parts_of};
 ghost use Rattle.parsing.specs.Patterns.{var_of};
 ghost use Rattle.parsing.specs.Vars.{vars_of};
-ghost use Rattle.validating.specs.Pairs.{has_constraint, defines, defines_all, checked_pair, parts_of, pair_outcome};
+ghost use Rattle.validating.specs.Pairs.{has_constraint, defines, defines_all, checked_pair, pair_outcome};
 
 use errors::Refusal;
 use parsing::patterns::{Pattern, Placeholder};
@@ -12,53 +13,39 @@ use parsing::reading;
 use tokens::TokenList;
 
 // Whether the pattern has the name of a placeholder of the template.
-fn defines(
-    pattern_text: &[u8],
-    pattern: &Pattern,
-    template_text: &[u8],
-    placeholder: &Placeholder,
-) -> bool
-    ensures { result ≡ defines pattern_text.now (vars_of pattern.now) template_text.now (var_of placeholder.now) }
+fn defines(pattern: &Pattern<'_>, template_text: &[u8], placeholder: &Placeholder) -> bool
+    ensures { result ≡ defines pattern.now.text.now (vars_of pattern.now) template_text.now (var_of placeholder.now) }
 {
     let name = placeholder.name.of(template_text);
-    pattern.find_name(pattern_text, name).is_some()
+    pattern.find_name(name).is_some()
 }
 
 // Whether every placeholder of the template has its name in the pattern.
-fn defines_all(
-    pattern_text: &[u8],
-    pattern: &Pattern,
-    template_text: &[u8],
-    template: &Pattern,
-) -> bool
-    ensures { result ≡ defines_all pattern_text.now (vars_of pattern.now) template_text.now (vars_of template.now) }
+fn defines_all(pattern: &Pattern<'_>, template: &Pattern<'_>) -> bool
+    ensures { result ≡ defines_all pattern.now.text.now (vars_of pattern.now) template.now.text.now (vars_of template.now) }
 {
+    let text = template.text;
     template
         .placeholders
         .iter()
-        .all(|p| defines(pattern_text, pattern, template_text, p))
+        .all(|p| defines(pattern, text, p))
 }
 
 // Whether one of the placeholders has a constraint.
-fn has_constraint(template: &Pattern) -> bool
+fn has_constraint(template: &Pattern<'_>) -> bool
     ensures { result ≡ has_constraint (vars_of template.now) }
 {
     template.placeholders.iter().any(|p| !p.nots.is_empty())
 }
 
 // Two lists that were read: 14, then 15.
-fn check_template(
-    pattern_text: &[u8],
-    pattern: &Pattern,
-    template_text: &[u8],
-    template: &Pattern,
-) -> Result<(), Refusal>
-    ensures { result ≡ checked_pair pattern_text.now (vars_of pattern.now) template_text.now (vars_of template.now) }
+fn check_template(pattern: &Pattern<'_>, template: &Pattern<'_>) -> Result<(), Refusal>
+    ensures { result ≡ checked_pair pattern.now.text.now (vars_of pattern.now) template.now.text.now (vars_of template.now) }
 {
     if has_constraint(template) {
         return Err(Refusal::TemplateConstraint);
     }
-    if defines_all(pattern_text, pattern, template_text, template) {
+    if defines_all(pattern, template) {
         return Ok(());
     }
     Err(Refusal::UndefinedPlaceholder)
@@ -76,7 +63,7 @@ pub fn validate_rule(pattern: TokenList, template: Option<TokenList>) -> Result<
         reading::parse_pattern(pattern),
         reading::parse_pattern(template),
     ) {
-        (Ok(p), Ok(t)) => check_template(pattern.text, &p, template.text, &t),
+        (Ok(p), Ok(t)) => check_template(&p, &t),
         (Err(r), Err(s)) => errors::lowest(Err(r), Err(s)),
         (Err(r), Ok(_)) | (Ok(_), Err(r)) => Err(r),
     }

@@ -15,6 +15,8 @@ use errors::Refusal;
 use job_checks::{CheckedJob, Inputs};
 use preparing::MatchTables;
 use render_replace::RenderTables;
+use rule_paths::tables;
+use rule_paths::tables::{ALL, FEW, FEW_FACTS};
 use rules::numbering;
 use walk_nodes::found::Found;
 use words::buffer;
@@ -27,12 +29,11 @@ fn find_job<'a, const N: usize>(
     tables: &mut MatchTables<N>,
     index: &'a mut [u64],
     found: &'a mut Found,
-    keys: &'a mut [u64],
+    keys: &'a mut [u64; 1024],
 ) -> Result<CheckedJob<'a, N>, Refusal>
     requires room { Roomy N given.words.now }
     requires index_len { length given.file.facts.now / 4 ≤ 16383 → length given.file.facts.now / 4 ≤ length index.old }
     requires none_found { found.old ≡ [] }
-    requires in_bounds { 1024 ≤ length keys.old }
     ensures value { outcome_of result ≡ walk_outcome (the_walk given.entry) }
     ensures found_job { IfOk result (λ job. FoundJob given.entry (job_in job.given)) }
 {
@@ -51,7 +52,6 @@ fn find_job<'a, const N: usize>(
 }
 
 // The walk in a buffer that is used whole: in tables for trees of up to N elements or facts, and an index of up to F facts of the file.
-// Clearing those for all that trees may have takes longer than most walks.
 #[tactic(auto, using(job_answers::proofs::AnswerLaws::refused, job_answers::proofs::AnswerLaws::written))]
 fn walk_in<const N: usize, const F: usize>(
     given: Inputs<'_>,
@@ -75,7 +75,7 @@ fn walk_in<const N: usize, const F: usize>(
         &mut keys,
     ) {
         Ok(job) => job_list::write_checked(&job, &mut tables, out),
-        Err(refusal) => edits::refuse(refusal, out),
+        Err(refusal) => errors::refuse(refusal, out),
     }
 }
 
@@ -85,12 +85,10 @@ fn walk_used(given: Inputs<'_>, out: &mut [u8]) -> Result<Edited, Refusal>
     ensures value { result ≡ walk_answer (the_walk given.entry) (length out.old) }
     ensures out_after { out.new ≡ walk_buffer (the_walk given.entry) out.old }
 {
-    if given.words.len() <= 3072 {
-        if given.file.facts.len() <= 8192 {
-            return walk_in::<1024, 2048>(given, out);
-        }
+    if tables::are_few(given.words.len(), given.file.facts.len()) {
+        return walk_in::<FEW, FEW_FACTS>(given, out);
     }
-    walk_in::<16384, 16384>(given, out)
+    walk_in::<ALL, ALL>(given, out)
 }
 
 // The walk: the rules, the fact text that their facts point into, the file, the parses, and a range that matches have to be in.

@@ -59,11 +59,10 @@ pub fn check_found<'a, const N: usize>(
     given: Inputs<'a>,
     accepted: Accepted<'a, N>,
     found: &'a Found,
-    keys: &'a mut [u64],
+    keys: &'a mut [u64; 1024],
 ) -> Result<CheckedJob<'a, N>, Refusal>
     requires walkable { Walkable (walk_in given) accepted.rules accepted.file }
     requires matches { found.now ≡ walk_matches (walk_in given) }
-    requires in_bounds { 1024 ≤ length keys.old }
     ensures value { outcome_of result ≡ walk_outcome (walk_in given.entry) }
     ensures found_job { IfOk result (λ job. FoundJob given.entry (job_in job.given)) }
 {

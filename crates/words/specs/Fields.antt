@@ -2,6 +2,8 @@
 -- a word past the end of a part counts as 0, which is a word of no kind.
 -- Assumes nothing.
 use Rattle.std.specs.Prelude.{ℕ, ◌+◌, ◌*◌, ◌/◌, ◌%◌, Bool, List, eqb, get_or}
+use Rattle.words.specs.declared.fields.WordKind.{WordKind}
+use Rattle.words.specs.declared.fields.WordKind.TheVariants as kinds
 
 -- "The top four bits of a word are its kind, the low 28 its value"
 abbrev pub word_kind : ℕ → ℕ
@@ -9,6 +11,20 @@ word_kind w = w / 268435456
 
 abbrev pub word_value : ℕ → ℕ
 word_value w = w % 268435456
+
+-- the kinds: "kind 1 (node) or 2 (token)", "a kind 3 word (start byte) and a kind 4 word (end byte)", "start (kind 5), end (kind 6), length
+-- (kind 7)", "a kind 8 word" of a parse, "a kind 9 word" of a fact, "then three kind 10 values"
+abbrev pub kind_number : WordKind → ℕ
+kind_number kinds.Node = 1
+kind_number kinds.Token = 2
+kind_number kinds.Start = 3
+kind_number kinds.End = 4
+kind_number kinds.EditStart = 5
+kind_number kinds.EditEnd = 6
+kind_number kinds.EditLength = 7
+kind_number kinds.Parse = 8
+kind_number kinds.Fact = 9
+kind_number kinds.Value = 10
 
 -- word i of a part, its kind and its value
 abbrev pub word_at : List ℕ → ℕ → ℕ

@@ -12,7 +12,7 @@ pub enum Source {
 }
 
 // The bytes of an element, a placeholder or a name, from the start up to the end.
-#[derive(Clone, Copy, Debug, PartialEq, Eq)]
+#[derive(Clone, Copy, Debug, Default, PartialEq, Eq)]
 pub struct Range {
     pub start: usize,
     pub end: usize,

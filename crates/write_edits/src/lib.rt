@@ -25,7 +25,7 @@ use syntax::trees::Tree;
 fn is_outer(row: &Row) -> bool
     ensures { result ≡ is_outer row.now.state }
 {
-    matches!(row.state, Nesting::Outermost)
+    row.state == Nesting::Outermost
 }
 
 // The words of the edit of a node, but for the length of its text, which is not known yet.
@@ -108,8 +108,8 @@ fn answer(laid: Result<usize, Event>, out: &mut [u8]) -> Result<Edited, Refusal>
 {
     match laid {
         Ok(behind) => edits::end(out, behind),
-        Err(Event::Unbound) => edits::refuse(Refusal::UnboundPlaceholder, out),
-        Err(Event::NoRoom) => edits::refuse(Refusal::NoRoom, out),
+        Err(Event::Unbound) => errors::refuse(Refusal::UnboundPlaceholder, out),
+        Err(Event::NoRoom) => errors::refuse(Refusal::NoRoom, out),
         Err(Event::Asked { kind, from, to }) => edits::ask(out, kind, from, to - from),
     }
 }

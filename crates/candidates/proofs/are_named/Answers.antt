@@ -1,15 +1,13 @@
 -- `candidates::are_named` meets its contract.
-use mathlib.Core.Path.{sym, ap, ◌∙◌}
-use mathlib.Core.Bool.{not}
+use Rattle.std.proofs.Common.{rules, tests, ◌∙◌, sym}
+use Rattle.std.proofs.lemmas.Iterator.Search.{all_from_yields_List}
 use Rattle.syntax.specs.Views.{tree_of}
-use Rattle.candidates.proofs.Loops.{bad_more, bad_stop, bad_end}
+use Rattle.candidates.specs.Candidates.{candidates_of, is_named}
+use Rattle.candidates.proofs.Loops.{chunks_candidates, all_named}
 use Rattle.candidates.proofs.are_named.Goals as goal
 
-pub returns-then-not-is_named : goal.returns-then-not-is_named
-returns-then-not-is_named c = let l = c.loop-candidate.invariant in let s = c.in-Some.ensures.steps.1 in ap not (sym (l.1 ∙ bad_stop (tree_of c.args.tree) c.args.rules _ _ _ s.0 (rw l.0 at s.1) s.2 (sym c.is_named.ensures ∙ c.if-not-is_named.true)))
-
-pub loop-candidate-preserved : goal.loop-candidate-preserved
-loop-candidate-preserved c = let l = c.loop-candidate.invariant in let s = c.in-Some.ensures.steps in (s.0 ∙ l.0, l.1 ∙ bad_more (tree_of c.args.tree) c.args.rules _ _ _ s.1.0 (rw l.0 at s.1.1) s.1.2 (sym c.is_named.ensures ∙ c.if-not-is_named.false))
-
 pub returns : goal.returns
-returns c = let l = c.loop-candidate.invariant in ap not (sym (l.1 ∙ bad_end (tree_of c.args.tree) c.args.rules _ c.in-None.ensures.steps.1.0))
+returns c =
+    let test = is_named (tree_of c.args.tree) c.args.rules in
+    all_from_yields_List test _ _ c.all.result c.all.ensures.ran (chunks_candidates c.chunks.result c.chunks.ensures.size) (λ x b q k. search (rules, tests))
+    ∙ rw c.chunks.ensures.rest (sym (all_named (tree_of c.args.tree) c.args.rules (candidates_of c.args.candidates.now)))

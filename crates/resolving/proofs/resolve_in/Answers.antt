@@ -22,5 +22,5 @@ returns-in_err-rules g c =
 pub returns : goal.returns
 returns g c =
     let a = c.args in
-    let k = resolves a.rules (in_rules a.rules a.number a.side a.element) c.in_ok-check_rules.ensures _ c.in_ok-rules.ensures in
+    let k = resolves a.rules (in_rules a.rules a.asked.rule a.asked.side a.asked.element) c.in_ok-check_rules.ensures _ c.in_ok-rules.ensures in
     rw (c.find_in_rules.ensures, k.0) k.1

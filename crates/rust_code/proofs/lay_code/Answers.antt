@@ -7,7 +7,7 @@ use Rattle.rust_code.proofs.lay_code.Goals as goal
 
 pub returns-in_err-at : goal.returns-in_err-at
 returns-in_err-at c =
-    let t = c.args.text.now in
+    let t = c.args.pattern.now.text.now in
     let l = c.loop-placeholder in
     let p = c.placeholder-item.result in
     let n = vars_step c.args.pattern.now.placeholders.items l.placeholder-index p (omega (arith, ap length c.as_slice-placeholder-items.ensures.value)) (rw c.as_slice-placeholder-items.ensures.value at c.placeholder-item.is) in
@@ -15,7 +15,7 @@ returns-in_err-at c =
 
 pub loop-placeholder-preserved : goal.loop-placeholder-preserved
 loop-placeholder-preserved c =
-    let t = c.args.text.now in
+    let t = c.args.pattern.now.text.now in
     let l = c.loop-placeholder in
     let p = c.placeholder-item.result in
     let n = vars_step c.args.pattern.now.placeholders.items l.placeholder-index p (omega (arith, ap length c.as_slice-placeholder-items.ensures.value)) (rw c.as_slice-placeholder-items.ensures.value at c.placeholder-item.is) in
@@ -23,7 +23,7 @@ loop-placeholder-preserved c =
 
 pub returns : goal.returns
 returns c =
-    let t = c.args.text.now in
+    let t = c.args.pattern.now.text.now in
     let l = c.loop-placeholder in
     let n = vars_end c.args.pattern.now.placeholders.items l.placeholder-index (omega (arith, ap length c.as_slice-placeholder-items.ensures.value)) in
     so_far_end c.args.out.now t (length t) (vars_of c.args.pattern.now) l.out l.at l.from (rw n at l.invariant) c.put.result c.put.new.out

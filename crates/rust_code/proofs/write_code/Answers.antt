@@ -16,7 +16,7 @@ returns-clause-value c =
     let d = c.args.out.now in
     let x = was_read (reading w t) (vars_of c.in_ok-pattern.pattern) c.in_ok-pattern.ensures.value in
     let e : segments t (length t) 0 (vars_of c.in_ok-pattern.pattern) ≡ raw_code t x.elements = sym (code_segments w t x.elements c.in_ok-pattern.ensures.formed x.is ∙ ap (segments t (length t) 0) x.shows) in
-    c.ok_or.ensures.value ∙ (written d (raw_code t x.elements) c.lay_code.result c.lay_code.new.out (rw e at c.lay_code.ensures)).0 ∙ sym (ap (code_answer (length d) t) x.is)
+    c.ok_or.ensures.value ∙ (written d (raw_code t x.elements) c.lay_code.result c.lay_code.new.out (rw (c.in_ok-pattern.ensures.text, e) at c.lay_code.ensures)).0 ∙ sym (ap (code_answer (length d) t) x.is)
 
 pub returns-clause-bytes : goal.returns-clause-bytes
 returns-clause-bytes c =
@@ -25,4 +25,4 @@ returns-clause-bytes c =
     let d = c.args.out.now in
     let x = was_read (reading w t) (vars_of c.in_ok-pattern.pattern) c.in_ok-pattern.ensures.value in
     let e : segments t (length t) 0 (vars_of c.in_ok-pattern.pattern) ≡ raw_code t x.elements = sym (code_segments w t x.elements c.in_ok-pattern.ensures.formed x.is ∙ ap (segments t (length t) 0) x.shows) in
-    rw c.ok_or.ensures.value ((written d (raw_code t x.elements) c.lay_code.result c.lay_code.new.out (rw e at c.lay_code.ensures)).1 ∙ sym (ap (code_bytes (length d) t) x.is))
+    rw c.ok_or.ensures.value ((written d (raw_code t x.elements) c.lay_code.result c.lay_code.new.out (rw (c.in_ok-pattern.ensures.text, e) at c.lay_code.ensures)).1 ∙ sym (ap (code_bytes (length d) t) x.is))

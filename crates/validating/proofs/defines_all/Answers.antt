@@ -11,6 +11,6 @@ use Rattle.validating.proofs.defines_all.Goals as goal
 pub returns : goal.returns
 returns c =
     let items = c.args.template.now.placeholders.items in
-    let test = defines c.args.pattern_text.now (vars_of c.args.pattern.now) c.args.template_text.now in
+    let test = defines c.args.pattern.now.text.now (vars_of c.args.pattern.now) c.args.template.now.text.now in
     all_from_yields_List (λ p. test (var_of p)) _ _ c.all.result c.all.ensures.ran (YieldsList-from_slice items cc) (λ x b q k. search (rules, tests))
     ∙ sym (list_all-map test var_of items)

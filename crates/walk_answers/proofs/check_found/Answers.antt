@@ -17,7 +17,7 @@ returns-in_err-parses-clause-value g c =
 
 pub order_candidates-requires : goal.order_candidates-requires
 order_candidates-requires g c =
-    length-take-le _ c.args.keys.now (omega (arith, c.len.ensures.few, c.requires.in_bounds)) ∙ c.len.ensures.value
+    length-take-le _ c.args.keys.now (omega (arith, c.len.ensures.few, c.fits-keys)) ∙ c.len.ensures.value
     ∙ sym (ap candidate_count c.words-candidates.ensures ∙ count-words c.args.found.now)
 
 pub invariant_of-result : goal.invariant_of-result

@@ -14,8 +14,9 @@ returns-then-not-is_well_formed-clause-value c = sym (placeholders_malformed c.a
 pub loop-token-init : goal.loop-token-init
 loop-token-init c = record {
   text = refl;
-  few = rw c.new-pattern.ensures (omega (arith, count_none, c.tokens.ensures.few));
-  so_far = rw (c.new-pattern.ensures, c.tokens.ensures.value) (so_far_none c.args.list.text.now (tokens_from c.args.list.words.now 0));
+  of_list = c.new-pattern.ensures.text_value;
+  few = rw c.new-pattern.ensures.vars (omega (arith, count_none, c.tokens.ensures.few));
+  so_far = rw (c.new-pattern.ensures.vars, c.tokens.ensures.value) (so_far_none c.args.list.text.now (tokens_from c.args.list.words.now 0));
 }
 
 pub returns-in_err-placeholder-clause-value : goal.returns-in_err-placeholder-clause-value
@@ -34,8 +35,9 @@ loop-token-preserved-in-Continue-branch-2 c =
     let r = rw l.invariant.text at c.in_ok-placeholder.ensures.read in
     record {
       text = c.in_ok-placeholder.ensures.text ∙ l.invariant.text;
-      few = rw c.in_ok-add.ensures.0 (omega (arith, count_snoc (vars_of l.pattern) (var_of p), l.invariant.few, ap length c.in-Some.ensures.steps, r.0));
-      so_far = so_far_more t _ _ _ (vars_of l.pattern) c.in-Some.token l.invariant.so_far c.in-Some.ensures.steps c.if-token-eq-DOLLAR.true p c.read_placeholder.new.self.tokens r (vars_of c.add.new.self) c.in_ok-add.ensures;
+      of_list = ap (λ x. x.now) c.in_ok-add.ensures.text ∙ l.invariant.of_list;
+      few = rw c.in_ok-add.ensures.added.0 (omega (arith, count_snoc (vars_of l.pattern) (var_of p), l.invariant.few, ap length c.in-Some.ensures.steps, r.0));
+      so_far = so_far_more t _ _ _ (vars_of l.pattern) c.in-Some.token l.invariant.so_far c.in-Some.ensures.steps c.if-token-eq-DOLLAR.true p c.read_placeholder.new.self.tokens r (vars_of c.add.new.self) (rw l.invariant.of_list at c.in_ok-add.ensures.added);
     }
 
 pub returns-in_err-add-clause-value : goal.returns-in_err-add-clause-value
@@ -45,13 +47,14 @@ returns-in_err-add-clause-value c =
     let p = c.in_ok-placeholder.placeholder in
     let e = err_from_is_err_and c.from_residual-in_err-add.result c.from_residual-in_err-add.ensures.1 in
     let r = rw l.invariant.text at c.in_ok-placeholder.ensures.read in
-    rw (e.1, e.2) (sym (placeholders_refused c.args.list.words.now t (sym c.if-not-is_well_formed.ensures.value) _ (not_added t _ _ _ (vars_of l.pattern) c.in-Some.token l.invariant.so_far c.in-Some.ensures.steps c.if-token-eq-DOLLAR.true p c.read_placeholder.new.self.tokens r _ (vars_of c.add.new.self) c.in_err-add.ensures)))
+    rw (e.1, e.2) (sym (placeholders_refused c.args.list.words.now t (sym c.if-not-is_well_formed.ensures.value) _ (not_added t _ _ _ (vars_of l.pattern) c.in-Some.token l.invariant.so_far c.in-Some.ensures.steps c.if-token-eq-DOLLAR.true p c.read_placeholder.new.self.tokens r _ (vars_of c.add.new.self) (rw l.invariant.of_list at c.in_err-add.ensures.added))))
 
 pub loop-token-preserved : goal.loop-token-preserved
 loop-token-preserved c =
     let l = c.loop-token in
     record {
       text = l.invariant.text;
+      of_list = l.invariant.of_list;
       few = omega (arith, l.invariant.few, ap length c.in-Some.ensures.steps);
       so_far = so_far_plain c.args.list.text.now _ _ _ (vars_of l.pattern) c.in-Some.token l.invariant.so_far c.in-Some.ensures.steps c.if-token-eq-DOLLAR.false;
     }

@@ -9,6 +9,7 @@ use Rattle.parsing.proofs.reading.parse_pattern.Given as goal
 abbrev pub invariant-loop-token : goal.invariant-loop-token
 invariant-loop-token l = record {
   text : l.reader.text ≡ l.fn.list.text;
+  of_list : l.pattern.text.now ≡ l.fn.list.text.now;
   few : 5 * length (all_nots (vars_of l.pattern)) + length l.reader.tokens ≤ 255;
   so_far : SoFar l.fn.list.text.now (tokens_from l.fn.list.words.now 0) (vars_of l.pattern) l.reader.tokens;
 }

@@ -10,5 +10,5 @@ use Rattle.rules.proofs.StageLaws.{fold_lowest}
 use Rattle.rules.proofs.stages.check_forms.Goals as goal
 
 pub returns : goal.returns
-returns c = let a = c.args in let f = form_outcome a.fact_bytes a.pair.now a.side a.right_text a.bytes in
+returns c = let a = c.args in let f = form_outcome a.fact_bytes a.pair.now a.side a.code.is_right a.code.bytes in
     fold_from_yields_List _ (λ b x. lowest_of b (f x)) ok _ c.fold.ensures.ran (YieldsList-from_slice (five (λ x. x)) (cc)) (λ b x r q k. search (rules, tests)) ∙ fold_lowest f (five (λ x. x))

@@ -9,6 +9,6 @@ use Rattle.parsing.proofs.patterns.Pattern.find_name.Goals as goal
 pub returns : goal.returns
 returns c =
     let items = c.args.self.now.placeholders.items in
-    let test = has_name_text c.args.text.now c.args.name.now in
+    let test = has_name_text c.args.self.now.text.now c.args.name.now in
     position_from_yields_List (λ p. test (var_of p)) _ _ c.position.result c.position.ensures.ran (YieldsList-from_slice items cc) (λ x b q k. search (rules, tests))
     ∙ sym (position_map var_of test items)

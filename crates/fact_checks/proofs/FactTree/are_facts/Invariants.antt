@@ -5,9 +5,9 @@ use Prim.Native.Nat.{◌%◌}
 use lib.ListN.{length}
 use Rattle.syntax.specs.Views.{tree_of}
 use Rattle.facts.proofs.FactLaws.{all_facts}
-use Rattle.fact_checks.proofs.are_facts.Given as goal
+use Rattle.fact_checks.proofs.FactTree.are_facts.Given as goal
 
 abbrev pub invariant-loop-part : goal.invariant-loop-part
 invariant-loop-part l =
     (chunks_exact_size l.part-iterator ≡ 4) × (length (chunks_exact_rest l.part-iterator) % 4 ≡ 0)
-    × (all_facts l.owner (tree_of l.tree) l.bytes l.words ≡ all_facts l.owner (tree_of l.tree) l.bytes (chunks_exact_rest l.part-iterator))
+    × (all_facts l.self.owner (tree_of l.self.tree) l.self.bytes l.words ≡ all_facts l.self.owner (tree_of l.self.tree) l.self.bytes (chunks_exact_rest l.part-iterator))
