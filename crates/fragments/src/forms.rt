@@ -8,8 +8,9 @@ pub enum Side {
 }
 
 // The forms that a side is parsed as, in the order of docs/src/src/parsing.rs, `ParsedRule::new`.
-#[derive(Clone, Copy, Debug, PartialEq, Eq)]
+#[derive(Clone, Copy, Debug, Default, PartialEq, Eq)]
 pub enum Form {
+    #[default]
     Expression = 0,
     Type = 1,
     Item = 2,

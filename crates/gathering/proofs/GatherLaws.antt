@@ -7,7 +7,7 @@ use Prim.Native.Nat.{ℕ, ◌+◌, ◌/◌, ◌%◌, ◌<◌, ◌≤◌}
 use native.Mathlib.Omega.{arith}
 use lib.ListN.{length, get_or, set}
 use lib.Seq.{get_or-set_same, get_or-set_other}
-use Rattle.std.proofs.Common.{Option, Some, None, option_map}
+use Rattle.std.proofs.Common.{min, Option, Some, None, option_map}
 use Rattle.words.specs.declared.texts.Range.{Range}
 use Rattle.words.proofs.TestLaws.{same_or}
 use Rattle.syntax.proofs.FormedLaws.{formed_is}
@@ -100,15 +100,11 @@ module _ {j : Job} {q : Rules} {file : Accepted} {parses : List Parse} {keys : L
   count_is : length (rules (pairs_in q.pairs)) ≡ rule_count j
   count_is = rw checked.rules_are refl
 
-  -- there are as many rules as are counted, which are few
-  pub few : (number : ℕ) → number < length (rules (pairs_in q.pairs)) → number < 16
-  few number h = omega (arith, h, checked.few_rules, count_is)
-
-  -- so where the rows of the keys of all rules are told, all are
-  pub told_all : (range : Option Range) (number : ℕ) (rows : List Row) → length (rules (pairs_in q.pairs)) ≤ number
+  -- where the rows of the keys of all rules are told, which are few, all are
+  pub told_all : (range : Option Range) (number : ℕ) (rows : List Row) → min 16 (length (rules (pairs_in q.pairs))) ≤ number
       → ((i : ℕ) → i < length keys → get_or keys i 0 % 16 < number → Told (attempt_of q (file_in file) range) (module_of file.facts) keys rows i)
       → Gathered q (file_in file) range keys rows
-  told_all range number rows all told i h = told i h (omega (arith, keys_are.1 i h, count_is, all))
+  told_all range number rows all told i h = told i h (omega (arith, keys_are.1 i h, checked.few_rules, count_is, all))
 
   -- no key is of a rule that is not there
   none_unfound : (number : ℕ) → None ≡ option_map (paired q) (found_rule q number) → (i : ℕ) → i < length keys → get_or keys i 0 % 16 ≡ number → ⊥

@@ -12,7 +12,6 @@ ghost use Rattle.gathering.specs.Gathered.{Gathers, Gathered};
 use job_checks::CheckedJob;
 use nester::Row;
 use preparing::{MatchTables, Prepared};
-use rules::numbering;
 
 // The row of one candidate, with its rule made ready. Comments are not laid: there is no room for any.
 #[tactic(auto, using(crate::proofs::GatherLaws::node_low, crate::proofs::GatherLaws::row_is))]
@@ -92,7 +91,7 @@ fn gather_number<const N: usize>(
 }
 
 // The row of each candidate of a job, by its key.
-#[tactic(auto, using(crate::proofs::GatherLaws::few, crate::proofs::GatherLaws::told_more))]
+#[tactic(auto, using(crate::proofs::GatherLaws::told_more))]
 pub fn gather_all<const N: usize>(
     job: &CheckedJob<'_, N>,
     tables: &mut MatchTables<N>,
@@ -101,7 +100,7 @@ pub fn gather_all<const N: usize>(
     requires { length rows.old ≡ length job.now.keys.now }
     ensures { Gathered job.now.rules (file_in job.now.file) job.now.given.inputs.range job.now.keys.now rows.new }
 {
-    for number in 0..numbering::count_rules(&job.rules.rules().pairs) {
+    for number in 0..job.rules.count() {
         gather_number(job, number, tables, rows);
     }
 }

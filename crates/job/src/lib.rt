@@ -20,6 +20,7 @@ use words::buffer;
 // All checks in turn, and then the edit list, in a buffer that is used whole: with tables for trees of up to N elements or facts, and an index
 // of up to F facts of the file.
 #[tactic(auto, using(job_answers::proofs::AnswerLaws::refused, job_answers::proofs::AnswerLaws::written, crate::proofs::CheckingLaws::same_list))]
+#[inline(never)]
 fn job_in<const N: usize, const F: usize>(
     given: GivenJob<'_>,
     out: &mut [u8],
@@ -45,10 +46,13 @@ fn job_used(given: GivenJob<'_>, out: &mut [u8]) -> Result<Edited, Refusal>
     ensures value { result ≡ job_answer (the_job given.entry) (length out.old) }
     ensures out_after { out.new ≡ buffer_after (the_job given.entry) out.old }
 {
-    if tables::are_few(given.inputs.words.len(), given.inputs.file.facts.len()) {
+    if !tables::are_few(given.inputs.words.len()) {
+        return job_in::<ALL, ALL>(given, out);
+    }
+    if tables::are_few_facts(given.inputs.file.facts.len()) {
         return job_in::<FEW, FEW_FACTS>(given, out);
     }
-    job_in::<ALL, ALL>(given, out)
+    job_in::<FEW, ALL>(given, out)
 }
 
 // A job: the rules, the fact text that their facts point into, the file, the parses, the candidates, and a range that matches have to be in.

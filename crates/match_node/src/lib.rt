@@ -83,10 +83,13 @@ fn match_used(
     ensures value { result ≡ matched_node rules.entry (given_in file.entry) question.rule question.range question.node (length out.old) }
     ensures out_after { out.new ≡ buffer_after rules.entry (given_in file.entry) question.rule question.range question.node out.old }
 {
-    if tables::are_few(rules.pairs.word_count(), file.facts.len()) {
+    if !tables::are_few(rules.pairs.word_count()) {
+        return match_in::<ALL, ALL>(rules, file, question, out);
+    }
+    if tables::are_few_facts(file.facts.len()) {
         return match_in::<FEW, FEW_FACTS>(rules, file, question, out);
     }
-    match_in::<ALL, ALL>(rules, file, question, out)
+    match_in::<FEW, ALL>(rules, file, question, out)
 }
 
 // Matching one node.

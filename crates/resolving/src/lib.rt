@@ -91,7 +91,7 @@ fn resolve_in<const N: usize>(rules: Rules, asked: Question) -> Result<Option<El
 pub fn resolve_element(rules: Rules<'_>, asked: Question) -> Result<Option<Element>, Refusal>
     ensures { result ≡ resolved_element rules.entry asked.rule asked.side asked.element }
 {
-    if tables::are_few(rules.pairs.word_count(), 0) {
+    if tables::are_few(rules.pairs.word_count()) {
         return resolve_in::<FEW>(rules, asked);
     }
     resolve_in::<ALL>(rules, asked)

@@ -1,6 +1,6 @@
 -- A rule of a number is one of those left, its trees resolve, and its pair passed its checks.
 -- Assumes nothing.
-use Rattle.std.proofs.Common.{◌≡◌, refl, sym, ◌∙◌, Bool, true, false, List, [], ◌∷◌, map, ℕ, zero, suc, ◌+◌, ◌-◌, ◌≤◌, length, Option, Some, None, Ok, slice_get, arith}
+use Rattle.std.proofs.Common.{◌≡◌, refl, sym, ◌∙◌, Bool, true, false, List, [], ◌∷◌, map, ℕ, zero, suc, ◌+◌, ◌-◌, ◌≤◌, ◌<◌, length, take, Option, Some, None, Ok, slice_get, arith}
 use Rattle.std.specs.List.{AllByRecursion}
 use Rattle.errors.specs.Refusals.{ok}
 use Rattle.words.proofs.TestLaws.{or_neither}
@@ -15,7 +15,7 @@ use Rattle.rules.specs.declared.stages.Stage.{Stage}
 use Rattle.rules.specs.declared.stages.Stage.TheVariants.{Trees}
 use Rattle.rules.specs.Forms.{template_tree, any, is_left, forms_left}
 use Rattle.rules.specs.Stages.{pair_stage, stage_outcome}
-use Rattle.rules.specs.Numbering.{rule_of, rules_from}
+use Rattle.rules.specs.Numbering.{rule_of, rules_from, rules}
 use Rattle.rules.proofs.FormLaws.{passing_hold}
 use Rattle.rules.proofs.StageLaws.{stage_both}
 use Rattle.rules.proofs.RuleLaws.{at_here, at_behind, at_none}
@@ -126,3 +126,13 @@ module _ (p : Pair) (r : Rule) (l : IsLeft p r) where
 
   pub template_resolves : (f : Form) → template_form r.form r.template ≡ Some f → resolving (tree_at p side.Template f) ≡ Ok (tree_at p side.Template f)
   template_resolves f h = rw (template_good f h)
+
+-- the rule of a number that is among those kept
+get_taken : {X : Type 0} (n : ℕ) (l : List X) (i : ℕ) → i < n → slice_get (take n l) i ≡ slice_get l i
+get_taken zero l i h = absurd (omega (arith, h))
+get_taken (suc n) [] i h = refl
+get_taken (suc n) (x ∷ l) zero h = refl
+get_taken (suc n) (x ∷ l) (suc i) h = get_taken n l i (omega (arith, h))
+
+pub kept_rule : (q : Rules) (first : List Rule) (number : ℕ) → first ≡ take 16 (rules (pairs_in q.pairs)) → number < 16 → slice_get first number ≡ found_rule q number
+kept_rule q first number e h = rw e (get_taken 16 (rules (pairs_in q.pairs)) number h)

@@ -1,12 +1,13 @@
 -- What is known below the operation: trees that passed their checks, and tables that are large enough for them.
 -- Assumes nothing.
-use Rattle.std.specs.Prelude.{ℕ, ◌/◌, ◌≤◌, ◌≡◌, true, false, List, map, length, min, Some}
+use Rattle.std.specs.Prelude.{ℕ, ◌/◌, ◌≤◌, ◌≡◌, true, false, List, map, length, take, min, Some}
 use Rattle.errors.specs.Refusals.{ok}
 use Rattle.parsing.specs.Reading.{Var}
 use Rattle.fragments.specs.declared.forms.Side.TheVariants.{Pattern}
 use Rattle.fragments.specs.Pairs.{Pair, text_of, pair_at, pairs_in}
 use Rattle.rules.specs.declared.numbering.Rule.{Rule}
 use Rattle.rules.specs.Forms.{template_tree, any, is_left}
+use Rattle.rules.specs.Numbering.{rules}
 use Rattle.rules.specs.Stages.{trees_outcome}
 use Rattle.checks.specs.declared.Rules.{Rules}
 use Rattle.checks.specs.Given.{rule_trees}
@@ -41,8 +42,9 @@ pub record IsLeft (p : Pair) (r : Rule) : Type 0 where
   pub tree : r.template ≡ template_tree p r.form
   pub good : pair_fails p ≡ false
 
--- rules whose trees passed, and in which every path that must resolve has a fact
-pub record AreResolved (n : ℕ) (q : Rules) : Type 0 where
+-- rules whose trees passed, and in which every path that must resolve has a fact; and the first of them
+pub record AreResolved (n : ℕ) (q : Rules) (first : List Rule) : Type 0 where
   pub passed : rule_trees q ≡ ok
   pub good : any (map pair_fails (pairs_in q.pairs)) ≡ false
   pub room : Roomy n q.pairs.words
+  pub kept : first ≡ take 16 (rules (pairs_in q.pairs))

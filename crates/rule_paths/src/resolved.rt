@@ -1,19 +1,22 @@
 // Rules in which every path that must resolve has a fact.
-ghost use Rattle.std.specs.Prelude.{◌≡◌, ◌/◌, ◌≤◌, length, option_map, IfSome};
+ghost use Rattle.std.specs.Prelude.{◌≡◌, ◌/◌, ◌≤◌, length, min, option_map, IfSome};
 ghost use Rattle.fragments.specs.declared.forms.Side.TheVariants as sides;
 ghost use Rattle.errors.specs.Refusals.{ok};
-ghost use Rattle.fragments.specs.Pairs.{tree_of};
+ghost use Rattle.fragments.specs.Pairs.{tree_of, pairs_in};
+ghost use Rattle.rules.specs.Numbering.{rules as rules_of};
 ghost use Rattle.checks.specs.Given.{rule_trees, found_rule};
 ghost use Rattle.rule_paths.specs.RulePaths.{pattern_vars, tree_at, template_form, resolving_rules};
 ghost use Rattle.rule_paths.specs.Needs.{Roomy, paired};
 
 use crate::{PassedPair, Tables, passed};
+use arrayvec::ArrayVec;
 use checks::Rules;
 use errors::Refusal;
 use fragments::forms::Side;
 use fragments::pairs::Pair;
 use parsing::patterns::Pattern;
 use paths::Resolved;
+use rules::numbering;
 use rules::numbering::Rule;
 use std::marker::Model;
 use syntax::trees::Tree;
@@ -91,10 +94,12 @@ impl<'a, const N: usize> ResolvedRule<'a, N> {
     }
 }
 
-// Rules whose trees passed their checks, none of more than N elements or facts, and resolve.
+// Rules whose trees passed their checks, none of more than N elements or facts, and resolve. The first of them are kept: to find one goes
+// through all pairs before it, and looks for paths in their trees.
 #[derive(Drop)]
 pub struct ResolvedRules<'a, const N: usize> {
     rules: Rules<'a>,
+    first: ArrayVec<Rule, 16>,
 }
 
 impl<'a, const N: usize> Model for ResolvedRules<'a, N> {
@@ -106,7 +111,7 @@ impl<'a, const N: usize> Model for ResolvedRules<'a, N> {
 
     ghost view = { λ r. r.rules };
 
-    ghost invariant = { λ r. AreResolved N r.rules };
+    ghost invariant = { λ r. AreResolved N r.rules r.first.items };
 }
 
 impl<'a, const N: usize> ResolvedRules<'a, N> {
@@ -120,7 +125,8 @@ impl<'a, const N: usize> ResolvedRules<'a, N> {
         for pair in &rules.pairs {
             PassedPair::<N>::new(pair, rules.fact_bytes).check_rules(tables)?;
         }
-        Ok(ResolvedRules { rules })
+        let first = numbering::first_rules(&rules.pairs);
+        Ok(ResolvedRules { rules, first })
     }
 
     // The rules.
@@ -130,11 +136,30 @@ impl<'a, const N: usize> ResolvedRules<'a, N> {
         &self.rules
     }
 
+    // How many of them there are, or are kept.
+    pub fn count(&self) -> usize
+        ensures { result ≡ min 16 (length (rules_of (pairs_in self.now.pairs))) }
+    {
+        self.first.len()
+    }
+
+    // The one of a number.
+    #[tactic(auto, using(crate::proofs::LeftLaws::kept_rule))]
+    fn find_rule(&self, number: usize) -> Option<Rule>
+        ensures { result ≡ found_rule self.now number }
+    {
+        if number < 16 {
+            let kept = self.first.as_slice().get(number)?;
+            return Some(*kept);
+        }
+        self.rules.rule(number)
+    }
+
     // The rule of a number.
     pub fn rule(&self, number: usize) -> Option<ResolvedRule<'a, N>>
         ensures { result ≡ option_map (paired self.now) (found_rule self.now number) }
     {
-        let rule = self.rules.rule(number)?;
+        let rule = self.find_rule(number)?;
         let pair = self.rules.pairs.at(rule.pair);
         Some(ResolvedRule {
             pair: PassedPair::new(pair, self.rules.fact_bytes),

@@ -1,5 +1,5 @@
 // What resolving works in.
-ghost use Rattle.std.specs.Prelude.{◌≡◌, true, ◌≤◌};
+ghost use Rattle.std.specs.Prelude.{◌≡◌, ◌≤◌, leb};
 
 use paths::Noted;
 
@@ -11,11 +11,18 @@ pub const FEW_FACTS: usize = 2048;
 
 pub const ALL: usize = 16384;
 
-// Whether the words of the rules' trees, and those of a file's facts, are few.
-pub fn are_few(words: usize, facts: usize) -> bool
-    ensures { result ≡ true → (words ≤ 3072) × (facts ≤ 8192) }
+// Whether the words of the rules' trees are few.
+pub fn are_few(words: usize) -> bool
+    ensures { result ≡ leb words 3072 }
 {
-    (words <= 3 * FEW) & (facts <= 4 * FEW_FACTS)
+    words <= 3 * FEW
+}
+
+// Whether the words of a file's facts are few.
+pub fn are_few_facts(words: usize) -> bool
+    ensures { result ≡ leb words 8192 }
+{
+    words <= 4 * FEW_FACTS
 }
 
 // The index of a tree's facts, and what is noted of its elements; there is room for N of each. They are of the tree that was resolved last.

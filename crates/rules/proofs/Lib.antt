@@ -2,3 +2,4 @@
 pub mod FormLaws
 pub mod StageLaws
 pub mod RuleLaws
+pub mod FirstLaws

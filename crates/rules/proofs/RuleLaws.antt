@@ -11,11 +11,11 @@ use Rattle.rules.specs.Numbering.{rule_of, rules_from, rule_at}
 use Rattle.rules.specs.declared.numbering.Rule.{Rule}
 
 -- no pairs have no rules; else the first pair's, and the others'
-rules_none : (k : ℕ) → rules_from k [] ≡ []
+pub rules_none : (k : ℕ) → rules_from k [] ≡ []
 unfolding rules_from
 rules_none k = refl
 
-rules_cons : (k : ℕ) (p : Pair) (ps : List Pair) → rules_from k (p ∷ ps) ≡ map (rule_of k p) (forms_left p) ++ rules_from (k + 1) ps
+pub rules_cons : (k : ℕ) (p : Pair) (ps : List Pair) → rules_from k (p ∷ ps) ≡ map (rule_of k p) (forms_left p) ++ rules_from (k + 1) ps
 unfolding rules_from
 rules_cons k p ps = refl
 

@@ -11,9 +11,10 @@ use syntax::kinds::{ElementKind, PATH};
 use syntax::parts::Part;
 
 // The template's tree of a rule.
-#[derive(Clone, Copy, Debug, PartialEq, Eq)]
+#[derive(Clone, Copy, Debug, Default, PartialEq, Eq)]
 pub enum TemplateTree {
     // No template was given.
+    #[default]
     Absent,
     // The form's own tree.
     Own,

@@ -3,5 +3,5 @@
 
 pub mod forms; // forms.rt: the forms of a pair that are rules, and those left
 pub mod stages; // stages.rt: the checks of all pairs: 1 to 15, 18 to 21, 17
-pub mod numbering; // numbering.rt: how many rules are left, and the rule of a number
+pub mod numbering; // numbering.rt: how many rules are left, the rule of a number, and the first of them
 pub mod building; // building.rt: the operation

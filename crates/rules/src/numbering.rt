@@ -1,15 +1,17 @@
 // The rules left, numbered from 0 by pair and then by form.
-ghost use Rattle.std.specs.Prelude.{◌≡◌, length};
+ghost use Rattle.std.specs.Prelude.{◌≡◌, ◌++◌, ◌≤◌, length, map, take};
 ghost use Rattle.fragments.specs.Pairs.{pairs_in};
-ghost use Rattle.rules.specs.Numbering.{rules, rule_at};
+ghost use Rattle.rules.specs.Forms.{forms_left};
+ghost use Rattle.rules.specs.Numbering.{rule_of, rules, rule_at};
 
 use crate::forms;
 use crate::forms::TemplateTree;
+use arrayvec::ArrayVec;
 use fragments::forms::Form;
-use fragments::pairs::Pairs;
+use fragments::pairs::{Pair, Pairs};
 
 // A rule: the number of its pair, its form, and its template's tree.
-#[derive(Clone, Copy, Debug, PartialEq, Eq)]
+#[derive(Clone, Copy, Debug, Default, PartialEq, Eq)]
 pub struct Rule {
     pub pair: usize,
     pub form: Form,
@@ -45,4 +47,36 @@ pub fn rule_at(pairs: &Pairs, number: usize) -> Option<Rule>
         left -= forms.len();
     }
     None
+}
+
+// Adds the rules of the pair of a number to those before it, as far as there is room.
+#[tactic(auto, using(crate::proofs::FirstLaws::one_more, crate::proofs::FirstLaws::all_added))]
+fn add_rules(number: usize, pair: &Pair, first: &mut ArrayVec<Rule, 16>)
+    requires { length first.old.items ≤ 16 }
+    ensures { first.new.items ≡ take 16 (first.old.items ++ map (rule_of number pair.now) (forms_left pair.now)) }
+{
+    for form in forms::left_forms(pair) {
+        if first.is_full() {
+            return;
+        }
+        first.push(Rule {
+            pair: number,
+            form,
+            template: forms::template_tree(pair, form),
+        });
+    }
+}
+
+// The first rules left: as many as a job and the walk may have.
+pub fn first_rules(pairs: &Pairs) -> ArrayVec<Rule, 16>
+    ensures { result.items ≡ take 16 (rules (pairs_in pairs.now)) }
+{
+    let mut first = ArrayVec::new();
+    for (n, pair) in pairs.iter().enumerate() {
+        if first.is_full() {
+            return first;
+        }
+        add_rules(n, &pair, &mut first);
+    }
+    first
 }

@@ -17,7 +17,6 @@ use preparing::MatchTables;
 use render_replace::RenderTables;
 use rule_paths::tables;
 use rule_paths::tables::{ALL, FEW, FEW_FACTS};
-use rules::numbering;
 use walk_nodes::found::Found;
 use words::buffer;
 
@@ -38,11 +37,10 @@ fn find_job<'a, const N: usize>(
     ensures found_job { IfOk result (λ job. FoundJob given.entry (job_in job.given)) }
 {
     let accepted = walk_answers::check_walk(&given, &mut tables.resolving, index)?;
-    let count = numbering::count_rules(&accepted.rules.rules().pairs);
     finding::find_all(
         &accepted.rules,
         &accepted.file,
-        count,
+        accepted.rules.count(),
         given.range,
         tables,
         found,
@@ -53,6 +51,7 @@ fn find_job<'a, const N: usize>(
 
 // The walk in a buffer that is used whole: in tables for trees of up to N elements or facts, and an index of up to F facts of the file.
 #[tactic(auto, using(job_answers::proofs::AnswerLaws::refused, job_answers::proofs::AnswerLaws::written))]
+#[inline(never)]
 fn walk_in<const N: usize, const F: usize>(
     given: Inputs<'_>,
     out: &mut [u8],
@@ -85,10 +84,13 @@ fn walk_used(given: Inputs<'_>, out: &mut [u8]) -> Result<Edited, Refusal>
     ensures value { result ≡ walk_answer (the_walk given.entry) (length out.old) }
     ensures out_after { out.new ≡ walk_buffer (the_walk given.entry) out.old }
 {
-    if tables::are_few(given.words.len(), given.file.facts.len()) {
+    if !tables::are_few(given.words.len()) {
+        return walk_in::<ALL, ALL>(given, out);
+    }
+    if tables::are_few_facts(given.file.facts.len()) {
         return walk_in::<FEW, FEW_FACTS>(given, out);
     }
-    walk_in::<ALL, ALL>(given, out)
+    walk_in::<FEW, ALL>(given, out)
 }
 
 // The walk: the rules, the fact text that their facts point into, the file, the parses, and a range that matches have to be in.

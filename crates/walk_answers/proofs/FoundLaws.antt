@@ -7,10 +7,12 @@ use Prim.Native.Nat.{ℕ, ◌≤◌}
 use native.Mathlib.Omega.{arith}
 use lib.ListN.{length}
 use Rattle.sorting.specs.Sorted.{sort}
-use Rattle.std.proofs.Common.{Option, Ok}
+use Rattle.std.proofs.Common.{refl, min, Option, Ok}
 use Rattle.errors.specs.Refusals.{ok}
 use Rattle.words.proofs.TestLaws.{or_neither}
 use Rattle.trees.specs.declared.File.{File as Accepted}
+use Rattle.fragments.specs.Pairs.{pairs_in}
+use Rattle.rules.specs.Numbering.{rules}
 use Rattle.checks.specs.declared.Rules.{Rules}
 use Rattle.checks.specs.Given.{file_in}
 use Rattle.syntax.specs.Trees.{tree}
@@ -51,11 +53,13 @@ module _ (given : Inputs) where
 
   -- what is found with as many rules as there are is what matches
   pub finds_matches : {A : Type 0} (q : Rules) (file : Accepted) (count : ℕ) (r : Option A) (found : List Candidate) → Walkable walk q file
-      → count ≡ rule_count walk
+      → count ≡ min 16 (length (rules (pairs_in q.pairs)))
       → Finds (accepted (attempt_of q (file_in file) given.range) (walk_candidates (tree file.tree.words.now) count)) r found → Finds (walk_matches walk) r found
   finds_matches q file count r found w e f =
+      let n : length (rules (pairs_in q.pairs)) ≡ rule_count walk = rw w.rules_are refl in
+      let k : count ≡ rule_count walk = omega (arith, e, n, w.few_rules) in
       let all : accepted (attempt_of q (file_in file) given.range) (walk_candidates (tree file.tree.words.now) count) ≡ walk_matches walk =
-      (λ i. accepted (attempt_of (w.rules_are i) (w.file_is i) given.range) (walk_candidates (tree (w.file_is i).words) (e i)))
+      (λ i. accepted (attempt_of (w.rules_are i) (w.file_is i) given.range) (walk_candidates (tree (w.file_is i).words) (k i)))
       ∙ ap (accepted (attempt_in walk)) (sym all_are) in
       rw all at f
 

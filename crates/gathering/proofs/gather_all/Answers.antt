@@ -4,4 +4,4 @@ use Rattle.gathering.proofs.GatherLaws.{told_all}
 use Rattle.gathering.proofs.gather_all.Goals as goal
 
 pub returns : goal.returns
-returns g c = told_all c.args.job.now.checked _ c.loop-number.number _ (omega (arith, c.loop-number-test.false, rw c.rules.ensures at c.count_rules-number-end.ensures)) c.loop-number.invariant.1
+returns g c = told_all c.args.job.now.checked _ c.loop-number.number _ (omega (arith, c.loop-number-test.false, c.count-number-end.ensures)) c.loop-number.invariant.1

@@ -14,9 +14,8 @@ pub returns-in_err-ok_or-clause-value : goal.returns-in_err-ok_or-clause-value
 returns-in_err-ok_or-clause-value g c =
     let j = walk_in c.args.given in
     let w = c.in_ok-accepted.ensures.walkable in
-    let e : c.count_rules-count.result ≡ rule_count j = rw (c.rules.ensures, w.rules_are) at c.count_rules-count.ensures in
     let none : c.find_all.result ≡ None = search rules in
     let f = rw c.requires.none_found at c.find_all.ensures in
-    let m = finds_matches c.args.given _ _ _ c.find_all.result c.find_all.new.found w e f in
+    let m = finds_matches c.args.given _ _ _ c.find_all.result c.find_all.new.found w c.count.ensures f in
     let many : 1024 < length (walk_matches j) = rw none at m in
     let k = too_many_matches j c.in_ok-accepted.ensures.value many in search (rules, k)
