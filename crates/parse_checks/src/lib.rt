@@ -74,7 +74,7 @@ pub fn check_parses<'a>(words: &'a [u32], text: &'a [u8]) -> Result<Parses<'a>, 
     let is_repeated = if words.len() < 512 {
         repeats::is_repeated(&parses)
     } else {
-        repeats::is_repeated_among_many(&parses)
+        repeats::is_repeated_among_many(&parses, words.len())
     };
     if is_repeated {
         return Err(Refusal::MalformedParses);

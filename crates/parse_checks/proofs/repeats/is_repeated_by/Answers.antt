@@ -7,7 +7,7 @@ use Rattle.parse_checks.proofs.repeats.is_repeated_by.Goals as goal
 
 pub loop-first-preserved : goal.loop-first-preserved
 unfolding is_repeated
-loop-first-preserved c = (
-  counted_later c.args.counts c.in-Some.first c.next.new.self (rw c.in-Some.ensures.steps at c.loop-first.invariant.0),
+loop-first-preserved g c = (
+  counted_later g.row.M c.args.counts c.in-Some.first c.next.new.self (rw c.in-Some.ensures.steps at c.loop-first.invariant.0),
   grind (arith, common_steps),
 )

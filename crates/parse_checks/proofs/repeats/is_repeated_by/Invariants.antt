@@ -6,7 +6,7 @@ use Rattle.parse_checks.specs.Marks.{Counted}
 use Rattle.parse_checks.proofs.repeats.is_repeated_by.Given as goal
 
 abbrev pub invariant-loop-first : goal.invariant-loop-first
-invariant-loop-first l = IfSome l.counts (λ c. Counted c.now l.rest) × (is_repeated l.parses ≡ is_repeated l.rest)
+invariant-loop-first g l = IfSome l.counts (λ c. Counted g.row.M c.now l.rest) × (is_repeated l.parses ≡ is_repeated l.rest)
 
 abbrev pub decreases-loop-first : goal.decreases-loop-first
-decreases-loop-first l = length l.rest
+decreases-loop-first g l = length l.rest

@@ -4,4 +4,4 @@ use Rattle.parse_checks.specs.Marks.{mark_from}
 use Rattle.parse_checks.proofs.repeats.mark_from.Given as goal
 
 abbrev pub invariant-loop-byte : goal.invariant-loop-byte
-invariant-loop-byte l = (l.mark < 16384) × (mark_from l.first l.text ≡ mark_from l.mark (drop l.byte-index l.text))
+invariant-loop-byte g l = (l.mark < g.row.M) × (mark_from g.row.M l.first l.text ≡ mark_from g.row.M l.mark (drop l.byte-index l.text))
