@@ -6,6 +6,7 @@ ghost use Rattle.trees.specs.Given.{outcome_of};
 ghost use Rattle.checks.specs.Given.{given_in, file_in, trees_outcome, given_outcome, found_rule, is_reversed};
 
 use errors::Refusal;
+use facts::IndexTables;
 use fragments::pairs::Pairs;
 use rules::numbering::Rule;
 use rules::stages::Stage;
@@ -51,9 +52,9 @@ fn outcome_of<T>(answer: &Result<T, Refusal>) -> Result<(), Refusal>
 fn check_trees<'a>(
     rules: &Rules,
     file: GivenFile<'a>,
-    index: &'a mut [u64],
+    index: IndexTables<'a>,
 ) -> Result<File<'a>, Refusal>
-    requires { length file.facts.now / 4 ≤ 16383 → length file.facts.now / 4 ≤ length index.old }
+    requires { length file.facts.now / 4 ≤ 16383 → length file.facts.now / 4 ≤ length index.entries.now }
     ensures value { outcome_of result ≡ trees_outcome rules.now (given_in file.entry) }
     ensures file { IfOk result (λ accepted. file_in accepted ≡ given_in file.entry) }
 {
@@ -69,9 +70,9 @@ fn check_trees<'a>(
 pub fn check_given<'a>(
     rules: &Rules,
     file: GivenFile<'a>,
-    index: &'a mut [u64],
+    index: IndexTables<'a>,
 ) -> Result<File<'a>, Refusal>
-    requires { length file.facts.now / 4 ≤ 16383 → length file.facts.now / 4 ≤ length index.old }
+    requires { length file.facts.now / 4 ≤ 16383 → length file.facts.now / 4 ≤ length index.entries.now }
     ensures value { outcome_of result ≡ given_outcome rules.now (given_in file.entry) }
     ensures file { IfOk result (λ accepted. file_in accepted ≡ given_in file.entry) }
 {

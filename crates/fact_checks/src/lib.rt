@@ -8,7 +8,7 @@ ghost use Rattle.syntax.specs.Views.{tree_of};
 ghost use Rattle.facts.specs.Facts.{sort_number, fact_at, is_fact_part, facts_of, are_fact_words, allows, low_kind, high_kind, names_token, has_values, is_fact, are_facts, is_fact_list};
 
 use errors::Refusal;
-use facts::{Fact, Facts, Owner, Sort};
+use facts::{Fact, Facts, IndexTables, Owner, Sort};
 use syntax::kinds::{EXPRESSIONS, Kinds, METHOD_CALL_EXPR, NODES, PATH, RECORD_EXPR_FIELD};
 use syntax::trees::Tree;
 use words::fields;
@@ -124,13 +124,13 @@ impl FactTree<'_> {
         true
     }
 
-    // The facts of the tree that words are; their index is made in a lent slice.
+    // The facts of the tree that words are; their index is made in lent tables.
     pub fn check_and_index<'a>(
         self,
         words: &'a [u32],
-        index: &'a mut [u64],
+        index: IndexTables<'a>,
     ) -> Result<Facts<'a>, Refusal>
-        requires { length words.now / 4 ≤ 16383 → length words.now / 4 ≤ length index.old }
+        requires { length words.now / 4 ≤ 16383 → length words.now / 4 ≤ length index.entries.now }
         ensures accepted { IfOk result (λ facts. (facts ≡ words.now) × (is_fact_list self.entry.owner (tree_of self.entry.tree) self.entry.bytes words.now ≡ true)) }
         ensures refused { IfErr result (λ r. (r ≡ MalformedFacts) × (is_fact_list self.entry.owner (tree_of self.entry.tree) self.entry.bytes words.now ≡ false)) }
     {
@@ -140,7 +140,10 @@ impl FactTree<'_> {
         if !self.are_facts(words) {
             return Err(Refusal::MalformedFacts);
         }
-        let facts = Facts::index(words, index);
+        let (entries, room) = (index.entries, index.starts);
+        let elements = self.tree.len().min(room.len());
+        let starts = &mut room[..elements];
+        let facts = Facts::index(words, IndexTables { entries, starts });
         if facts.is_steady() {
             Ok(facts)
         } else {
@@ -153,8 +156,12 @@ impl FactTree<'_> {
         requires { (N ≤ 16384) × (length words.now / 4 ≤ 16383 → length words.now / 4 ≤ N) }
         ensures { result ≡ cond (is_fact_list self.entry.owner (tree_of self.entry.tree) self.entry.bytes words.now) ok (err MalformedFacts) }
     {
-        let mut index = [0u64; N];
-        self.check_and_index(words, &mut index)?;
+        let mut entries = [0u64; N];
+        let index = IndexTables {
+            entries: &mut entries,
+            starts: &mut [],
+        };
+        self.check_and_index(words, index)?;
         Ok(())
     }
 

@@ -232,7 +232,7 @@ module _ (fs : List Fact) (few : length fs ≤ 16383) (k : ℕ) where
       (λ h. omega (arith, place-within k (keys_of fs), length_keys fs))
 
 -- a sort's number has 4 bits
-low_sort : (sort : Sort) → sort_number sort < 16
+pub low_sort : (sort : Sort) → sort_number sort < 16
 low_sort CodePath = omega arith
 low_sort RulePath = omega arith
 low_sort MethodCall = omega arith
@@ -242,7 +242,7 @@ low_sort RecordField = omega arith
 low_sort Node = omega arith
 low_sort TemplatePath = omega arith
 
-module _ (l index : List ℕ) (w : IsIndex l index) where
+module _ (l index starts : List ℕ) (w : IsIndex l index starts) where
   -- an index has an entry for each fact, in rising order
   pub index_length : length index ≡ length (facts_of l)
   index_length = ap length w.sorted ∙ length_index l

@@ -5,3 +5,4 @@ pub mod FactLaws
 pub mod KeyLaws
 pub mod IndexLaws
 pub mod ListLaws
+pub mod StartLaws

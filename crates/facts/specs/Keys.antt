@@ -1,8 +1,8 @@
 -- The index of a fact list: one number a fact, its key and its place in the list, in rising order. The key is element, sort, and step or
 -- module, as one number: facts that are listed by element are in order already. What is refused and what is found is said by `Facts` alone; that an index says the same is proved.
 -- Assumes nothing.
-use Rattle.std.specs.Prelude.{ℕ, ◌+◌, ◌*◌, ◌/◌, ◌%◌, ◌<◌, ◌≤◌, ◌≡◌, Bool, ◌&&◌, List, [], ◌∷◌, eqb, ltb, length}
-use Rattle.sorting.specs.Sorted.{sort}
+use Rattle.std.specs.Prelude.{ℕ, ◌+◌, ◌*◌, ◌/◌, ◌%◌, ◌<◌, ◌≤◌, ◌≡◌, Bool, ◌&&◌, List, [], ◌∷◌, eqb, ltb, length, get_or}
+use Rattle.sorting.specs.Sorted.{sort, below}
 use Rattle.facts.specs.Facts.{Fact, selector, facts_of}
 
 -- element, sort, and step or module as one number; sorts are below 16, and values below 2 ^ 28
@@ -36,8 +36,13 @@ pub record InRange (f : Fact) : Type 0 where
   pub low_element : f.element < 16384
   pub low_first : f.first < 268435456
 
--- an index is the entries of facts, in rising order
-pub record IsIndex (facts index : List ℕ) : Type 0 where
+-- how many entries are lower than all that an element can have, of each element of a table
+abbrev pub AreStarts : List ℕ → List ℕ → Type 0
+AreStarts starts index = (e : ℕ) → e < length starts → get_or starts e 0 ≡ below (e * 70368744177664) index
+
+-- an index is the entries of facts, in rising order, beside the starts of some elements
+pub record IsIndex (facts index starts : List ℕ) : Type 0 where
   pub few : length (facts_of facts) ≤ 16383
   pub low : AreLow (facts_of facts)
   pub sorted : index ≡ index_of facts
+  pub begins : AreStarts starts index

@@ -8,7 +8,7 @@ use words::fields;
 
 mod index; // index.rt: a list of facts with its index
 
-pub use index::Facts;
+pub use index::{Facts, IndexTables};
 
 // The tree that facts stand on.
 #[derive(Clone, Copy, Debug, PartialEq, Eq)]

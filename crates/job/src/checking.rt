@@ -5,6 +5,7 @@ ghost use Rattle.rule_paths.specs.Needs.{Roomy};
 ghost use Rattle.job_checks.specs.Checks.{job_in, job_outcome};
 
 use errors::Refusal;
+use facts::IndexTables;
 use job_checks::{CheckedJob, GivenJob};
 use rule_paths::Tables;
 
@@ -13,11 +14,11 @@ use rule_paths::Tables;
 pub fn check_job<'a, const N: usize>(
     given: GivenJob<'a>,
     tables: &mut Tables<N>,
-    index: &'a mut [u64],
+    index: IndexTables<'a>,
     keys: &'a mut [u64; 1024],
 ) -> Result<CheckedJob<'a, N>, Refusal>
     requires room { Roomy N given.inputs.words.now }
-    requires index_len { length given.inputs.file.facts.now / 4 ≤ 16383 → length given.inputs.file.facts.now / 4 ≤ length index.old }
+    requires index_len { length given.inputs.file.facts.now / 4 ≤ 16383 → length given.inputs.file.facts.now / 4 ≤ length index.entries.now }
     ensures value { outcome_of result ≡ job_outcome (job_in given.entry) }
     ensures given_is { IfOk result (λ job. job_in job.given ≡ job_in given.entry) }
 {

@@ -11,6 +11,7 @@ ghost use Rattle.job_answers.specs.Answers.{job_answer, buffer_after};
 
 use edits::Edited;
 use errors::Refusal;
+use facts::IndexTables;
 use job_checks::GivenJob;
 use render_replace::RenderTables;
 use rule_paths::tables;
@@ -32,9 +33,14 @@ fn job_in<const N: usize, const F: usize>(
     ensures out_after { out.new ≡ buffer_after (the_job given.entry) out.old }
 {
     let mut tables = RenderTables::<N>::new();
-    let mut index = [0; F];
+    let mut entries = [0; F];
+    let mut starts = [0; ALL];
+    let index = IndexTables {
+        entries: &mut entries,
+        starts: &mut starts,
+    };
     let mut keys = [0; 1024];
-    match checking::check_job(given, &mut tables.matching.resolving, &mut index, &mut keys) {
+    match checking::check_job(given, &mut tables.matching.resolving, index, &mut keys) {
         Ok(job) => job_list::write_checked(&job, &mut tables, out),
         Err(refusal) => errors::refuse(refusal, out),
     }

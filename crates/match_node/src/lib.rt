@@ -10,6 +10,7 @@ ghost use Rattle.match_node.specs.MatchNode.{matched_node, buffer_after, Answere
 use answers::NodeMatch;
 use checks::Rules;
 use errors::Refusal;
+use facts::IndexTables;
 use preparing::MatchTables;
 use resolved::{Accepted, check_and_resolve};
 use rule_match::{Question, match_rule};
@@ -65,8 +66,13 @@ fn match_in<const N: usize, const M: usize>(
     ensures out_after { out.new ≡ buffer_after rules.entry (given_in file.entry) question.rule question.range question.node out.old }
 {
     let mut tables: MatchTables<N> = MatchTables::new();
-    let mut index = [0u64; M];
-    match check_and_resolve(rules, file, &mut tables.resolving, &mut index) {
+    // Few facts are asked for, and where they begin is not worth knowing.
+    let mut entries = [0u64; M];
+    let index = IndexTables {
+        entries: &mut entries,
+        starts: &mut [],
+    };
+    match check_and_resolve(rules, file, &mut tables.resolving, index) {
         Ok(accepted) => match_asked(&accepted, question, &mut tables, out),
         Err(refusal) => errors::refuse(refusal, out),
     }

@@ -12,7 +12,7 @@ ghost use Rattle.paths.specs.Tables.{paths_of, calls_of, noted, call_number, AtE
 use crate::names;
 use crate::names::Qualifiers;
 use errors::Refusal;
-use facts::{Facts, Sort};
+use facts::{Facts, IndexTables, Sort};
 use parsing::patterns::Pattern;
 use syntax::kinds::{CALL_EXPR, Kinds, PATH};
 use syntax::parts::Part;
@@ -112,6 +112,10 @@ impl<'a> RuleTree<'a> {
         requires index_len { length facts.now / 4 ≤ length index.old }
         ensures { side_tree result ≡ record { side = side_by pattern.now.text.now (vars_of pattern.now) code.now facts.now; words = tree.entry.words.now } }
     {
+        let index = IndexTables {
+            entries: index,
+            starts: &mut [],
+        };
         let facts = Facts::index(facts, index);
         RuleTree {
             tree,

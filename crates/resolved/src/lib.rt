@@ -10,6 +10,7 @@ ghost use Rattle.resolved.specs.Resolved.{to_resolve};
 
 use checks::Rules;
 use errors::Refusal;
+use facts::IndexTables;
 use rule_paths::{ResolvedRules, Tables};
 use trees::{File, GivenFile};
 
@@ -26,10 +27,10 @@ pub fn check_and_resolve<'a, const N: usize>(
     rules: Rules<'a>,
     file: GivenFile<'a>,
     tables: &mut Tables<N>,
-    index: &'a mut [u64],
+    index: IndexTables<'a>,
 ) -> Result<Accepted<'a, N>, Refusal>
     requires room { Roomy N rules.pairs.words }
-    requires index_len { length file.facts.now / 4 ≤ 16383 → length file.facts.now / 4 ≤ length index.old }
+    requires index_len { length file.facts.now / 4 ≤ 16383 → length file.facts.now / 4 ≤ length index.entries.now }
     ensures value { outcome_of result ≡ in_turn (to_resolve rules.entry (given_in file.entry)) }
     ensures given { IfOk result (λ a. (a.rules ≡ rules.entry) × (file_in a.file ≡ given_in file.entry)) }
 {

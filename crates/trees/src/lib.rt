@@ -9,7 +9,7 @@ ghost use Rattle.trees.specs.Given.{with_facts, file_outcome, rule_outcome, righ
 
 use errors::Refusal;
 use fact_checks::FactTree;
-use facts::{Facts, Owner};
+use facts::{Facts, IndexTables, Owner};
 use parsing::reading;
 use rust_code::tree_text;
 use syntax::trees::Tree;
@@ -70,9 +70,9 @@ pub fn check_file(file: GivenFile) -> Result<(), Refusal>
 #[tactic(auto, using(crate::proofs::GivenLaws::tree_decides, crate::proofs::GivenLaws::facts_good, crate::proofs::GivenLaws::facts_bad))]
 pub fn check_and_index_file<'a>(
     file: GivenFile<'a>,
-    index: &'a mut [u64],
+    index: IndexTables<'a>,
 ) -> Result<File<'a>, Refusal>
-    requires { length file.facts.now / 4 ≤ 16383 → length file.facts.now / 4 ≤ length index.old }
+    requires { length file.facts.now / 4 ≤ 16383 → length file.facts.now / 4 ≤ length index.entries.now }
     ensures value { outcome_of result ≡ file_outcome file.entry.words.now file.entry.text.now file.entry.facts.now }
     ensures file { IfOk result (Holds file.entry) }
 {

@@ -12,6 +12,7 @@ ghost use Rattle.walk_answers.specs.Walkable.{FoundJob};
 
 use edits::Edited;
 use errors::Refusal;
+use facts::IndexTables;
 use job_checks::{CheckedJob, Inputs};
 use preparing::MatchTables;
 use render_replace::RenderTables;
@@ -26,12 +27,12 @@ use words::buffer;
 fn find_job<'a, const N: usize>(
     given: Inputs<'a>,
     tables: &mut MatchTables<N>,
-    index: &'a mut [u64],
+    index: IndexTables<'a>,
     found: &'a mut Found,
     keys: &'a mut [u64; 1024],
 ) -> Result<CheckedJob<'a, N>, Refusal>
     requires room { Roomy N given.words.now }
-    requires index_len { length given.file.facts.now / 4 ≤ 16383 → length given.file.facts.now / 4 ≤ length index.old }
+    requires index_len { length given.file.facts.now / 4 ≤ 16383 → length given.file.facts.now / 4 ≤ length index.entries.now }
     requires none_found { found.old ≡ [] }
     ensures value { outcome_of result ≡ walk_outcome (the_walk given.entry) }
     ensures found_job { IfOk result (λ job. FoundJob given.entry (job_in job.given)) }
@@ -63,13 +64,18 @@ fn walk_in<const N: usize, const F: usize>(
     ensures out_after { out.new ≡ walk_buffer (the_walk given.entry) out.old }
 {
     let mut tables = RenderTables::<N>::new();
-    let mut index = [0; F];
+    let mut entries = [0; F];
+    let mut starts = [0; ALL];
+    let index = IndexTables {
+        entries: &mut entries,
+        starts: &mut starts,
+    };
     let mut found = Found::new();
     let mut keys = [0; 1024];
     match find_job(
         given,
         &mut tables.matching,
-        &mut index,
+        index,
         &mut found,
         &mut keys,
     ) {

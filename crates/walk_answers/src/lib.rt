@@ -12,6 +12,7 @@ ghost use Rattle.walk_answers.specs.Walk.{walk_in, walk_matches, walk_checks, be
 ghost use Rattle.walk_answers.specs.Walkable.{Walkable, FoundJob};
 
 use errors::Refusal;
+use facts::IndexTables;
 use job_checks::{CheckedJob, GivenJob, Inputs};
 use resolved::Accepted;
 use rule_paths::Tables;
@@ -42,10 +43,10 @@ pub fn check_rules(given: &Inputs) -> Result<(), Refusal>
 pub fn check_walk<'a, const N: usize>(
     given: &Inputs<'a>,
     tables: &mut Tables<N>,
-    index: &'a mut [u64],
+    index: IndexTables<'a>,
 ) -> Result<Accepted<'a, N>, Refusal>
     requires room { Roomy N given.now.words.now }
-    requires index_len { length given.now.file.facts.now / 4 ≤ 16383 → length given.now.file.facts.now / 4 ≤ length index.old }
+    requires index_len { length given.now.file.facts.now / 4 ≤ 16383 → length given.now.file.facts.now / 4 ≤ length index.entries.now }
     ensures value { outcome_of result ≡ before_matches (walk_in given.now) }
     ensures walkable { IfOk result (λ a. Walkable (walk_in given.now) a.rules a.file) }
 {

@@ -9,7 +9,7 @@ use Rattle.facts.proofs.IndexLaws.{index_length}
 use Rattle.facts.proofs.index.Facts.at.Goals as goal
 
 pub returns-then-place-self : goal.returns-then-place-self
-returns-then-place-self c = let s = c.self.inside in rw (← c.self.view_is) (ap Some (rw c.tail.ensures at c.read.ensures) ∙ sym (get_fact s.words.now c.args.place (omega (arith, index_length _ _ c.self.invariant))))
+returns-then-place-self c = let s = c.self.inside in rw (← c.self.view_is) (ap Some (rw c.tail.ensures at c.read.ensures) ∙ sym (get_fact s.words.now c.args.place (omega (arith, index_length _ _ _ c.self.invariant))))
 
 pub returns : goal.returns
-returns c = let s = c.self.inside in rw (← c.self.view_is) (sym (slice_get_past (facts_of s.words.now) c.args.place (omega (arith, index_length _ _ c.self.invariant))))
+returns c = let s = c.self.inside in rw (← c.self.view_is) (sym (slice_get_past (facts_of s.words.now) c.args.place (omega (arith, index_length _ _ _ c.self.invariant))))
