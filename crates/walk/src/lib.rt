@@ -72,13 +72,7 @@ fn walk_in<const N: usize, const F: usize>(
     };
     let mut found = Found::new();
     let mut keys = [0; 1024];
-    match find_job(
-        given,
-        &mut tables.matching,
-        index,
-        &mut found,
-        &mut keys,
-    ) {
+    match find_job(given, &mut tables.matching, index, &mut found, &mut keys) {
         Ok(job) => job_list::write_checked(&job, &mut tables, out),
         Err(refusal) => errors::refuse(refusal, out),
     }

@@ -12,7 +12,8 @@ overflow_cast-starts c = omega (arith, start_few (c.loop-element.element * 70368
 pub loop-element-preserved : goal.loop-element-preserved
 loop-element-preserved c =
     let l = c.loop-element in
-    let place = c.pass_lower-place.result in
-    (length-set l.starts l.element place ∙ l.invariant.0,
-    omega (arith, c.pass_lower-place.ensures, below_rises (l.element * 70368744177664) ((l.element + 1) * 70368744177664) c.args.index.now (omega arith)),
-    λ e. start_laid l.starts c.args.index.now l.element place e (omega (arith, l.invariant.0, c.loop-element-test.true)) c.pass_lower-place.ensures l.invariant.2)
+    let place = c.pass_lower-place.result in (
+      length-set l.starts l.element place ∙ l.invariant.0,
+      omega (arith, c.pass_lower-place.ensures, below_rises (l.element * 70368744177664) ((l.element + 1) * 70368744177664) c.args.index.now (omega arith)),
+      λ e. start_laid l.starts c.args.index.now l.element place e (omega (arith, l.invariant.0, c.loop-element-test.true)) c.pass_lower-place.ensures l.invariant.2,
+    )
