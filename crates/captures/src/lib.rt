@@ -12,7 +12,7 @@ use syntax::parts::Part;
 use words::buffer;
 
 // How a receiver's function takes it.
-#[derive(Clone, Copy, Debug, PartialEq, Eq)]
+#[derive(Clone, Copy)]
 pub enum SelfKind {
     Owned = 0,
     Ref = 1,
@@ -42,7 +42,7 @@ impl From<SelfKind> for u32 {
 }
 
 // A placeholder's binding: its bytes in the file, and for a receiver how often it is dereferenced and how the function takes it.
-#[derive(Clone, Copy, Debug, PartialEq, Eq)]
+#[derive(Clone, Copy)]
 pub struct Binding {
     pub start: u32,
     pub end: u32,

@@ -11,7 +11,7 @@ use words::buffer;
 use words::fields::WordKind;
 
 // What came of a job that is not refused: Asked has the kind and the length of the text, an edit list its length.
-#[derive(Clone, Copy, Debug, PartialEq, Eq)]
+#[derive(Clone, Copy)]
 pub enum Edited {
     Asked { kind: u32, length: usize },
     Edits { length: usize },

@@ -8,7 +8,7 @@ ghost use Rattle.errors.specs.Refusals.{number_of, outcome_number, lowest_of};
 use words::buffer;
 
 // One case for each number of 01's section "Refusals by operation", in its order.
-#[derive(Clone, Copy, Debug, PartialEq, Eq)]
+#[derive(Clone, Copy)]
 pub enum Refusal {
     // Reading tokens.
     MalformedList = 1,

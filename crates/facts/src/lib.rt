@@ -11,7 +11,7 @@ mod index; // index.rt: a list of facts with its index
 pub use index::{Facts, IndexTables};
 
 // The tree that facts stand on.
-#[derive(Clone, Copy, Debug, PartialEq, Eq)]
+#[derive(Clone, Copy)]
 pub enum Owner {
     File,
     Pattern,
@@ -19,7 +19,7 @@ pub enum Owner {
 }
 
 // What a fact tells of its element: the table "Facts" of docs/FORMAT.md, by its numbers.
-#[derive(Clone, Copy, Debug, PartialEq, Eq)]
+#[derive(Clone, Copy)]
 pub enum Sort {
     // A path of the file: its resolution.
     CodePath = 0,
@@ -48,7 +48,7 @@ impl From<Sort> for u32 {
 }
 
 // A number that no sort has.
-#[derive(Clone, Copy, Debug, PartialEq, Eq)]
+#[derive(Clone, Copy)]
 pub struct UnknownSort(pub u32);
 
 impl TryFrom<u32> for Sort {
@@ -72,7 +72,7 @@ impl TryFrom<u32> for Sort {
 }
 
 // A fact. Its sort is the number in its word, which in a list that is not checked may be none of `Sort`.
-#[derive(Clone, Copy, Debug, PartialEq, Eq)]
+#[derive(Clone, Copy)]
 pub struct Fact {
     pub sort: u32,
     pub element: usize,
@@ -97,7 +97,7 @@ impl Fact {
 }
 
 // A call that UFCS may match: its function, and its qualifier type where it has one.
-#[derive(Clone, Copy, Debug, PartialEq, Eq)]
+#[derive(Clone, Copy)]
 pub struct Call {
     pub function: u32,
     pub qualifier: Option<u32>,

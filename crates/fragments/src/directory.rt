@@ -9,7 +9,7 @@ use words::{fields, slices};
 pub const ROW_LEN: usize = 27;
 
 // Which of the two slices beside the directory a part stands in.
-#[derive(Clone, Copy, Debug, PartialEq, Eq)]
+#[derive(Clone, Copy)]
 pub enum Slice {
     Words,
     Bytes,

@@ -1,14 +1,14 @@
 // What a pair has a tree of: each of five forms on each of two sides.
 
 // The side of a rule.
-#[derive(Clone, Copy, Debug, PartialEq, Eq)]
+#[derive(Clone, Copy)]
 pub enum Side {
     Pattern = 0,
     Template = 1,
 }
 
 // The forms that a side is parsed as, in the order of docs/src/src/parsing.rs, `ParsedRule::new`.
-#[derive(Clone, Copy, Debug, Default, PartialEq, Eq)]
+#[derive(Clone, Copy, Default)]
 pub enum Form {
     #[default]
     Expression = 0,

@@ -84,7 +84,7 @@ impl Mark {
 }
 
 // Whether a placeholder's constraints want a literal, and whether they want another thing.
-#[derive(Clone, Copy, Debug, PartialEq, Eq)]
+#[derive(Clone, Copy)]
 pub struct Limit {
     pub literal: bool,
     pub other: bool,

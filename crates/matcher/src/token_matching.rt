@@ -11,7 +11,7 @@ use syntax::kinds::{COMMA, R_BRACK, R_CURLY, R_PAREN};
 use syntax::parts::Part;
 
 // A separator that may stand, or be left out, right before a closer, by their kinds.
-#[derive(Clone, Copy, Debug, PartialEq, Eq)]
+#[derive(Clone, Copy)]
 pub struct Skip {
     pub separator: u32,
     pub closer: u32,

@@ -16,7 +16,7 @@ use words::texts::Range;
 
 // What ends the text of a match: a placeholder that is not bound, a byte that does not fit, or a first rendering of some kind, between two
 // places of the buffer, that has no parse.
-#[derive(Clone, Copy, Debug, PartialEq, Eq)]
+#[derive(Clone, Copy)]
 pub enum Event {
     Unbound,
     NoRoom,
@@ -24,7 +24,7 @@ pub enum Event {
 }
 
 // Where rendering goes on: at a place in the same row, or in a row that is nested in it, whose text begins at a place.
-#[derive(Clone, Copy, Debug, PartialEq, Eq)]
+#[derive(Clone, Copy)]
 pub enum Step {
     At(usize),
     Nested { row: usize, at: usize },

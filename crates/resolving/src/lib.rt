@@ -23,7 +23,7 @@ pub struct Question {
 }
 
 // An element of a rule's tree.
-#[derive(Clone, Copy, Debug, PartialEq, Eq)]
+#[derive(Clone, Copy)]
 pub struct Element {
     // What it resolves to as a path.
     pub path: Option<u32>,

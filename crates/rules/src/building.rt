@@ -8,7 +8,7 @@ use errors::Refusal;
 use fragments::pairs::Pairs;
 
 // How many rules are left, and the one that was asked for.
-#[derive(Clone, Copy, Debug, PartialEq, Eq)]
+#[derive(Clone, Copy)]
 pub struct Built {
     pub count: usize,
     pub rule: Option<Rule>,

@@ -11,7 +11,7 @@ use syntax::kinds::{ElementKind, PATH};
 use syntax::parts::Part;
 
 // The template's tree of a rule.
-#[derive(Clone, Copy, Debug, Default, PartialEq, Eq)]
+#[derive(Clone, Copy, Default)]
 pub enum TemplateTree {
     // No template was given.
     #[default]

@@ -11,7 +11,7 @@ use fragments::forms::Form;
 use fragments::pairs::{Pair, Pairs};
 
 // A rule: the number of its pair, its form, and its template's tree.
-#[derive(Clone, Copy, Debug, Default, PartialEq, Eq)]
+#[derive(Clone, Copy, Default)]
 pub struct Rule {
     pub pair: usize,
     pub form: Form,

@@ -16,7 +16,7 @@ use tree_checks::TreeText;
 use trees::GivenTree;
 
 // A stage of checks.
-#[derive(Clone, Copy, Debug, PartialEq, Eq)]
+#[derive(Clone, Copy)]
 pub enum Stage {
     // 1 to 15 of the lists.
     Lists,

@@ -6,7 +6,7 @@ pub mod rendering; // rendering.rt: the walk over a template's tree
 
 // A token's bytes in the template's code; the text of a rendered path, an element of the template, for the module of the matched node; what
 // the placeholder of a slot captured. A template has up to 16,383 of them, so that they are small.
-#[derive(Clone, Copy, Debug, PartialEq, Eq)]
+#[derive(Clone, Copy)]
 pub enum Piece {
     Text { start: u16, end: u16 },
     Path(u16),

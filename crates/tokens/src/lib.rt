@@ -12,7 +12,7 @@ use words::fields::WordKind;
 use words::texts::Range;
 
 // A token of a list: its kind, and where its text stands in the list's text.
-#[derive(Clone, Copy, Debug, PartialEq, Eq)]
+#[derive(Clone, Copy)]
 pub struct Token {
     pub kind: u32,
     pub range: Range,

@@ -4,7 +4,7 @@ ghost use Rattle.std.specs.Prelude.{◌≡◌, eqb};
 ghost use Rattle.words.specs.Fields.{kind_number, word_of, word_at, kind_at, value_at, is_a_node, is_a_token, syntax_kind, size_of, start_of, end_of, fact_sort, fact_element};
 
 // What a word is, by its top four bits.
-#[derive(Clone, Copy, Debug, PartialEq, Eq)]
+#[derive(Clone, Copy)]
 pub enum WordKind {
     Node = 1,
     Token = 2,

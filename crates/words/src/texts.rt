@@ -5,14 +5,14 @@ ghost use Rattle.words.specs.Texts.{part, text_of};
 use crate::{fields, slices};
 
 // Which text an element's range is in.
-#[derive(Clone, Copy, Debug, PartialEq, Eq)]
+#[derive(Clone, Copy)]
 pub enum Source {
     File,
     Rule,
 }
 
 // The bytes of an element, a placeholder or a name, from the start up to the end.
-#[derive(Clone, Copy, Debug, Default, PartialEq, Eq)]
+#[derive(Clone, Copy, Default)]
 pub struct Range {
     pub start: usize,
     pub end: usize,
