@@ -1,6 +1,4 @@
 // The limits of trees and facts, and the two shapes that a stack could fail on: for each what it is, and the number that it gets.
-#![tactic(auto)]
-
 use ssr::{ssr_check_file, ssr_check_rule_tree};
 use std::io;
 
@@ -178,10 +176,10 @@ fn file_lists(rt: &impl Print) -> io::Result<()> {
     say(rt, "a step repeated", steps(1))
 }
 
-fn main(rt: HostRuntime) -> io::Result<()> {
-    sizes(&rt)?;
-    depths(&rt)?;
-    file_lists(&rt)?;
-    say(&rt, "a text up to the end of the fact text", path_text(4))?;
-    say(&rt, "a text one byte longer", path_text(5))
+pub fn print_lines(rt: &impl Print) -> io::Result<()> {
+    sizes(rt)?;
+    depths(rt)?;
+    file_lists(rt)?;
+    say(rt, "a text up to the end of the fact text", path_text(4))?;
+    say(rt, "a text one byte longer", path_text(5))
 }
