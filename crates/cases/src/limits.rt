@@ -1,6 +1,10 @@
 // The limits of trees and facts, and the two shapes that a stack could fail on: for each what it is, and the number that it gets.
-use ssr::{ssr_check_file, ssr_check_rule_tree};
+use errors::outcome_number;
+use fragments::forms::Side;
+use rules::stages;
 use std::io;
+use tokens::TokenList;
+use trees::{GivenFile, GivenTree};
 
 // The text of a file: as many bytes as one may have, and one more.
 static TEXT: [u8; 65536] = [b'x'; 65536];
@@ -32,9 +36,14 @@ fn first<T>(list: &[T], count: usize) -> &[T] {
     list.get(..count).unwrap_or(list)
 }
 
-// The number of a file's tree over a text of some bytes.
+// The number of a file's tree with its facts.
+fn check(words: &[u32], text: &[u8], facts: &[u32]) -> u32 {
+    outcome_number(trees::check_file(GivenFile { words, text, facts }))
+}
+
+// Of one without facts over a text of some bytes.
 fn file(words: &[u32], bytes: usize) -> u32 {
-    ssr_check_file(words, first(&TEXT, bytes), &[])
+    check(words, first(&TEXT, bytes), &[])
 }
 
 // Of the first words of a root over tokens of a byte each, and 0 behind them.
@@ -106,7 +115,7 @@ fn file_facts<F: Fn(u32) -> [u32; 4]>(count: usize, fact: F) -> u32
     lay_nodes(&mut words, 1);
     let mut list = [0; 65540];
     lay(list.as_chunks_mut::<4>().0, fact);
-    ssr_check_file(&words, &[], first(&list, count))
+    check(&words, &[], first(&list, count))
 }
 
 // Of the 16,383 steps of one element, in falling order but for the last.
@@ -119,8 +128,11 @@ fn steps(last: u32) -> u32 {
 
 // Of a template's path `x`, whose text is the first bytes of a fact text of four.
 fn path_text(length: u32) -> u32 {
-    let list = [0x2001_0001];
-    let tree = [
+    let list = TokenList {
+        words: &[0x2001_0001],
+        text: b"x",
+    };
+    let words = [
         0x1002_0002,
         0x3000_0000,
         0x4000_0001,
@@ -128,58 +140,75 @@ fn path_text(length: u32) -> u32 {
         0x3000_0000,
         0x4000_0001,
     ];
-    let fact = [0x9700_0000, 0xa000_0001, 0xa000_0000, 0xa000_0000 | length];
-    ssr_check_rule_tree(1, &list, b"x", 1, &tree, b"x", &fact, b"text")
+    let facts = [0x9700_0000, 0xa000_0001, 0xa000_0000, 0xa000_0000 | length];
+    let tree = GivenTree {
+        owner: stages::owner_of(Side::Template),
+        words: &words,
+        facts: &facts,
+        fact_bytes: 4,
+    };
+    outcome_number(tree.check_given_tree(Some(list), b"x"))
 }
 
-fn say(rt: &impl Print, what: &str, number: u32) -> io::Result<()> {
-    println!(rt; "{what}: {number}")
+fn sizes() -> [(&'static str, u32); 6] {
+    [
+        ("16383 elements", wide(16383, 49149)),
+        ("one word more", wide(16383, 49150)),
+        ("16384 elements", wide(16384, 49152)),
+        ("65535 bytes", long(65535)),
+        ("65536 bytes", long(65536)),
+        ("no words", wide(0, 0)),
+    ]
 }
 
-fn sizes(rt: &impl Print) -> io::Result<()> {
-    say(rt, "16383 elements", wide(16383, 49149))?;
-    say(rt, "one word more", wide(16383, 49150))?;
-    say(rt, "16384 elements", wide(16384, 49152))?;
-    say(rt, "65535 bytes", long(65535))?;
-    say(rt, "65536 bytes", long(65536))?;
-    say(rt, "no words", wide(0, 0))
+fn depths() -> [(&'static str, u32); 8] {
+    [
+        ("128 nodes deep", deep(128, 0)),
+        ("129 nodes deep", deep(129, 0)),
+        ("a token at 128", deep_token(128)),
+        ("a token at 129", deep_token(129)),
+        ("16383 nodes deep", deep(16383, 0)),
+        ("the last bent", deep(16383, 1)),
+        ("16382 nodes side by side", flat(1)),
+        ("the last bent", flat(2)),
+    ]
 }
 
-fn depths(rt: &impl Print) -> io::Result<()> {
-    say(rt, "128 nodes deep", deep(128, 0))?;
-    say(rt, "129 nodes deep", deep(129, 0))?;
-    say(rt, "a token at 128", deep_token(128))?;
-    say(rt, "a token at 129", deep_token(129))?;
-    say(rt, "16383 nodes deep", deep(16383, 0))?;
-    say(rt, "the last bent", deep(16383, 1))?;
-    say(rt, "16382 nodes side by side", flat(1))?;
-    say(rt, "the last bent", flat(2))
-}
-
-fn file_lists(rt: &impl Print) -> io::Result<()> {
+fn file_lists() -> [(&'static str, u32); 8] {
     let imports = |i| fact(0x9600_0000 | i, 1);
-    say(rt, "16383 facts", file_facts(65532, imports))?;
-    say(rt, "16384 facts", file_facts(65536, imports))?;
-    say(rt, "three words", file_facts(3, imports))?;
-    say(
-        rt,
-        "a fact repeated",
-        file_facts(8, |_| fact(0x9600_0001, 1)),
-    )?;
-    say(
-        rt,
-        "a fact out of its kind",
-        file_facts(4, |_| fact(0x9000_0001, 1)),
-    )?;
-    say(rt, "16383 steps, falling", steps(0))?;
-    say(rt, "a step missing", steps(0x3fff))?;
-    say(rt, "a step repeated", steps(1))
+    [
+        ("16383 facts", file_facts(65532, imports)),
+        ("16384 facts", file_facts(65536, imports)),
+        ("three words", file_facts(3, imports)),
+        ("a fact repeated", file_facts(8, |_| fact(0x9600_0001, 1))),
+        (
+            "a fact out of its kind",
+            file_facts(4, |_| fact(0x9000_0001, 1)),
+        ),
+        ("16383 steps, falling", steps(0)),
+        ("a step missing", steps(0x3fff)),
+        ("a step repeated", steps(1)),
+    ]
 }
 
-pub fn print_lines(rt: &impl Print) -> io::Result<()> {
-    sizes(rt)?;
-    depths(rt)?;
-    file_lists(rt)?;
-    say(rt, "a text up to the end of the fact text", path_text(4))?;
-    say(rt, "a text one byte longer", path_text(5))
+fn fact_texts() -> [(&'static str, u32); 2] {
+    [
+        ("a text up to the end of the fact text", path_text(4)),
+        ("a text one byte longer", path_text(5)),
+    ]
+}
+
+// Writes what each of some cases is, and its number.
+fn print_numbers(rt: &impl Print, numbers: &[(&str, u32)]) -> io::Result<()> {
+    for (what, number) in numbers {
+        println!(rt; "{what}: {number}")?;
+    }
+    Ok(())
+}
+
+pub fn print_all(rt: &impl Print) -> io::Result<()> {
+    print_numbers(rt, &sizes())?;
+    print_numbers(rt, &depths())?;
+    print_numbers(rt, &file_lists())?;
+    print_numbers(rt, &fact_texts())
 }

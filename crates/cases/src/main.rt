@@ -39,5 +39,5 @@ fn main(rt: HostRuntime) -> io::Result<()> {
     print_line(&rt, 'L', example_l::job())?;
     print_line(&rt, 'M', example_m::job())?;
     print_line(&rt, 'N', example_n::job())?;
-    limits::print_lines(&rt)
+    limits::print_all(&rt)
 }
