@@ -1,2 +1,7 @@
--- Laws of the list of a job that passed its checks.
+-- Laws of the rows of a job that passed its checks, and of its list.
+mod RowLaws
+mod GatherLaws
+mod MatchLaws
+mod KeyLaws
+mod ShownLaws
 mod ListLaws

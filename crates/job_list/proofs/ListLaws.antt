@@ -22,8 +22,8 @@ use Rattle.write_edits.specs.Lists.{edits_within}
 use Rattle.job_checks.specs.Checks.{Job}
 use Rattle.job_checks.specs.Checked.{Checked}
 use Rattle.job_answers.specs.Answers.{list_in}
-use Rattle.job_rows.specs.Rows.{world_in, handed_in, RowsOf}
-use Rattle.job_rows.proofs.KeyLaws.{keys_length}
+use Rattle.job_list.specs.Rows.{world_in, handed_in, RowsOf}
+use Rattle.job_list.proofs.KeyLaws.{keys_length}
 
 module _ (j : Job) (q : Rules) (file : File) (parses : List Parse) (keys : List ℕ) (checked : Checked j q file parses keys) where
   pub few_keys : length keys ≤ 1024

@@ -7,6 +7,10 @@ ghost use Rattle.edits.specs.Answers.{answer_of, bytes_of};
 ghost use Rattle.job_checks.specs.Checks.{job_in};
 ghost use Rattle.job_answers.specs.Answers.{list_in};
 
+mod gathering; // gathering.rt: which candidates match
+mod match_rows; // match_rows.rt: the row of one candidate
+mod nesting; // nesting.rt: what becomes of each match
+
 use edits::Edited;
 use errors::Refusal;
 use job_checks::CheckedJob;
@@ -27,7 +31,7 @@ fn write_in<const N: usize, const R: usize>(
     let mut table = [match_rows::row_of(0, 0, None, 0); R];
     let mut frames = [Frame::at(0); R];
     let rows = &mut table[..job.keys.len()];
-    job_rows::nest_candidates(job, &mut tables.matching, rows);
+    nesting::nest_candidates(job, &mut tables.matching, rows);
     let handed = Handed {
         rules: &job.rules,
         fact_text: job.given.inputs.fact_text,

@@ -1,8 +1,8 @@
 // The buffer of an operation, which has room for 4,096 bytes.
+use crate::answer_bytes;
+use crate::answer_bytes::Answer;
+use crate::records::Parts;
 use arrayvec::ArrayVec;
-use replaying::answer_bytes;
-use replaying::answer_bytes::Answer;
-use replaying::records::Parts;
 
 // A buffer whose length the part at a place is. No byte of it is 0 before.
 pub fn buffer(parts: Parts, place: usize) -> ArrayVec<u8, 4096> {

@@ -1,6 +1,6 @@
 // Trees with their facts. A list, a tree and facts have room for 512 words each.
-use replaying::answer_bytes;
-use replaying::records::Parts;
+use crate::answer_bytes;
+use crate::records::Parts;
 
 // Whether checking the file's tree with its facts answers as expected.
 pub fn check_file(parts: Parts) -> bool {

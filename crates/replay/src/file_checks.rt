@@ -1,6 +1,6 @@
 // The operations on a file with rules. Each list of words has room for 512.
 use crate::buffers;
-use replaying::records::Parts;
+use crate::records::Parts;
 use ssr::{job_exports, match_exports};
 
 // Whether matching one node with a buffer answers and leaves it as expected.

@@ -1,7 +1,6 @@
 // The operations on token lists. A list has room for 512 words.
-use crate::buffers;
-use replaying::answer_bytes;
-use replaying::records::Parts;
+use crate::records::Parts;
+use crate::{answer_bytes, buffers};
 
 // Whether reading tokens answers as expected.
 pub fn read_tokens(parts: Parts) -> bool {

@@ -3,11 +3,11 @@
 //   sh oracle/compare/run sample 1 440 > crates/replay/stdin
 #![tactic(auto)]
 
-use replaying::records;
-use replaying::records::Record;
 use std::io;
 use std::io::Read;
 
+mod records; // records.rt: a record and its parts
+mod answer_bytes; // answer_bytes.rt: the bytes of an answer
 mod buffers; // buffers.rt: the buffer of an operation
 mod list_checks; // list_checks.rt: the operations on token lists
 mod fact_tree_checks; // fact_tree_checks.rt: trees with their facts
@@ -16,6 +16,7 @@ mod file_checks; // file_checks.rt: the operations on a file with rules
 mod operations; // operations.rt: the operations by their numbers
 
 use operations::Operation;
+use records::Record;
 
 // How many answers are the judged ones, and how many are not.
 #[derive(Clone, Copy)]

@@ -1,6 +1,6 @@
 // The operations by their numbers.
+use crate::records::Parts;
 use crate::{fact_tree_checks, file_checks, list_checks, rule_checks};
-use replaying::records::Parts;
 
 // In document 01's order.
 #[derive(Clone, Copy)]

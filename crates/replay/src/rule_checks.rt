@@ -1,6 +1,6 @@
 // The operations on rules. A directory and its words have room for 512 each.
-use replaying::answer_bytes;
-use replaying::records::Parts;
+use crate::answer_bytes;
+use crate::records::Parts;
 use ssr::rule_exports;
 
 // Whether building rules answers as expected.

@@ -1,1 +1,2 @@
 -- Laws of the walk.
+mod RuleLaws

@@ -10,6 +10,8 @@ ghost use Rattle.job_checks.specs.Checks.{job_in};
 ghost use Rattle.walk_answers.specs.Walk.{walk_in as the_walk, walk_outcome, walk_answer, walk_buffer};
 ghost use Rattle.walk_answers.specs.Walkable.{FoundJob};
 
+mod finding; // finding.rt: the candidates that match
+
 use edits::Edited;
 use errors::Refusal;
 use facts::IndexTables;

@@ -1,7 +1,7 @@
 //! Records of jobs and of walks for the sample: each refusal, each way that they go, what is asked for and what
 //! is written.
 //!
-//! The layout of such a record, as crates/replaying's src/records.rt says what a record is: operation 9, a job,
+//! The layout of such a record, as crates/replay's src/records.rt says what a record is: operation 9, a job,
 //! and sixteen parts in the order of the parameters of `ssr_job`, or operation 10, a walk, and fifteen, since
 //! `ssr_walk` has no candidates. Numbers and words are four bytes each, the lowest first.
 //!

@@ -1,7 +1,7 @@
 //! Records of matching one node for the sample: each refusal, each way that matching goes, each number
 //! of bound placeholders, receivers with stars and self kinds.
 //!
-//! The layout of such a record, as crates/replaying's src/records.rt says what a record is: operation 8,
+//! The layout of such a record, as crates/replay's src/records.rt says what a record is: operation 8,
 //! and fifteen parts in the order of the parameters of `ssr_match_node`. Numbers and words are four
 //! bytes each, the lowest first.
 //!

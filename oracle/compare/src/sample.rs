@@ -1,4 +1,4 @@
-//! A sample of judged operations, for crates/replay. crates/replaying/src/records.rt says what a record is.
+//! A sample of judged operations, for crates/replay. crates/replay/src/records.rt says what a record is.
 
 use std::collections::BTreeMap;
 

@@ -2,7 +2,7 @@
 use native.Mathlib.Omega.{arith}
 use Rattle.std.proofs.Common.{rules as goal_rules}
 use Rattle.job_checks.specs.Checks.{job_in}
-use Rattle.job_rows.specs.Rows.{world_in}
+use Rattle.job_list.specs.Rows.{world_in}
 use Rattle.job_list.proofs.ListLaws.{is_shown, lists}
 use Rattle.job_list.proofs.write_in.Goals as goal
 

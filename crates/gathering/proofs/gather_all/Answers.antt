@@ -1,7 +1,0 @@
--- `gathering::gather_all` meets its contract.
-use native.Mathlib.Omega.{arith}
-use Rattle.gathering.proofs.GatherLaws.{told_all}
-use Rattle.gathering.proofs.gather_all.Goals as goal
-
-pub returns : goal.returns
-returns g c = told_all c.args.job.now.checked _ c.loop-number.number _ (omega (arith, c.loop-number-test.false, c.count-number-end.ensures)) c.loop-number.invariant.1

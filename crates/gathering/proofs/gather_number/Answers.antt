@@ -1,6 +1,0 @@
--- `gathering::gather_number` meets its contract.
-use Rattle.gathering.proofs.GatherLaws.{gathers_unfound}
-use Rattle.gathering.proofs.gather_number.Goals as goal
-
-pub returns-in_default : goal.returns-in_default
-returns-in_default g c = gathers_unfound c.args.job.now.checked c.args.number _ _ c.args.rows.now c.in_default.ensures

@@ -1,7 +1,0 @@
--- `gathering::gather_prepared` meets its contract.
-use native.Mathlib.Omega.{arith}
-use Rattle.gathering.proofs.GatherLaws.{key_node}
-use Rattle.gathering.proofs.gather_prepared.Goals as goal
-
-pub gather_one-requires : goal.gather_one-requires
-gather_one-requires g c = (omega arith, (omega arith, (c.requires.ready, (key_node c.args.job.now.checked c.loop-place.place c.loop-place-test.true, c.requires.number_bound))))
