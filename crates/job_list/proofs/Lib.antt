@@ -4,4 +4,6 @@ mod GatherLaws
 mod MatchLaws
 mod KeyLaws
 mod ShownLaws
+mod EditLaws
+mod EditsLaws
 mod ListLaws

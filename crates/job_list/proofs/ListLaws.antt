@@ -18,7 +18,7 @@ use Rattle.edits.specs.declared.Edited.{Edited}
 use Rattle.edits.specs.Answers.{answer_of, bytes_of}
 use Rattle.rows.specs.Rows.{World}
 use Rattle.render_replace.specs.Worlds.{Handed, handed_of, Shown}
-use Rattle.write_edits.specs.Lists.{edits_within}
+use Rattle.job_list.specs.Lists.{edits_within}
 use Rattle.job_checks.specs.Checks.{Job}
 use Rattle.job_checks.specs.Checked.{Checked}
 use Rattle.job_answers.specs.Answers.{list_in}

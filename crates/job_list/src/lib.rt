@@ -10,6 +10,7 @@ ghost use Rattle.job_answers.specs.Answers.{list_in};
 mod gathering; // gathering.rt: which candidates match
 mod match_rows; // match_rows.rt: the row of one candidate
 mod nesting; // nesting.rt: what becomes of each match
+mod write_edits; // write_edits.rt: the edits of outer matches
 
 use edits::Edited;
 use errors::Refusal;

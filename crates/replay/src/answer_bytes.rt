@@ -1,9 +1,9 @@
 // The bytes of an answer, and whether they are the expected ones.
 use arrayvec::ArrayVec;
 use edits::EditedNumbers;
-use exports::match_answers::{BoundPlaceholder, MatchedNode};
-use exports::rule_answers::{BuiltRules, ResolvedElement};
-use exports::{NamedPlaceholder, RawCode, ReadTokens};
+use ssr::list_answers::{NamedPlaceholder, RawCode, ReadTokens};
+use ssr::match_answers::{BoundPlaceholder, MatchedNode};
+use ssr::rule_answers::{BuiltRules, ResolvedElement};
 
 // Whether bytes are the expected ones, and then 0.
 pub fn is_expected(found: &[u8], expected: &[u8]) -> bool {

@@ -1,1 +1,4 @@
+pub mod Lists
+pub mod Rules
+pub mod Matches
 pub mod Exports

@@ -7,10 +7,10 @@ ghost use Rattle.edits.specs.Answers.{edited_numbers};
 ghost use Rattle.job_checks.specs.Checks.{job_of};
 ghost use Rattle.job_answers.specs.Answers.{job_answer, buffer_after};
 ghost use Rattle.walk_answers.specs.Walk.{walk_of, walk_answer, walk_buffer};
-ghost use Rattle.exports.specs.Matches.{restriction};
+ghost use Rattle.ssr.specs.Matches.{restriction};
 
+use crate::ranges;
 use edits::EditedNumbers;
-use exports::ranges;
 use job_checks::{GivenJob, Inputs};
 use trees::GivenFile;
 

@@ -2,6 +2,10 @@
 // itself, all thin. crates/ssr_c exports them.
 #![tactic(auto)]
 
+pub mod ranges; // ranges.rt: a range as it is handed over
+pub mod list_answers; // list_answers.rt: the answers of the operations on one list, in numbers
+pub mod rule_answers; // rule_answers.rt: those of the operations on rules
+pub mod match_answers; // match_answers.rt: that of the operation that matches
 pub mod rule_exports; // rule_exports.rt: the operations on rules
 pub mod match_exports; // match_exports.rt: the operation that matches
 pub mod job_exports; // job_exports.rt: the operations that write an edit list
@@ -11,11 +15,11 @@ ghost use Rattle.words.specs.Buffer.{used_of, filled};
 ghost use Rattle.parsing.specs.Reading.{reading};
 ghost use Rattle.rust_code.specs.RawCode.{code_answer, code_bytes};
 ghost use Rattle.tokens.specs.Tokens.{parts_of};
-ghost use Rattle.exports.specs.Lists.{tokens_read, code_written};
+ghost use Rattle.ssr.specs.Lists.{tokens_read, code_written};
 ghost use Rattle.ssr.specs.Exports.{list_if, side_of, pair_number, file_number, rule_tree_number};
 
+use crate::list_answers::{RawCode, ReadTokens};
 use errors::outcome_number;
-use exports::{RawCode, ReadTokens};
 use fragments::forms::Side;
 use parsing::reading;
 use rules::stages;

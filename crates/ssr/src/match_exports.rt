@@ -3,11 +3,11 @@ ghost use Rattle.std.specs.Prelude.{◌≡◌, length};
 ghost use Rattle.words.specs.Buffer.{used_of};
 ghost use Rattle.checks.specs.Given.{rules_of, file_of};
 ghost use Rattle.match_node.specs.MatchNode.{matched_node, buffer_after};
-ghost use Rattle.exports.specs.Matches.{restriction, node_matched};
+ghost use Rattle.ssr.specs.Matches.{restriction, node_matched};
 
+use crate::match_answers::MatchedNode;
+use crate::ranges;
 use checks::Rules;
-use exports::match_answers::MatchedNode;
-use exports::ranges;
 use fragments::pairs::Pairs;
 use match_node::match_node;
 use rule_match::Question;

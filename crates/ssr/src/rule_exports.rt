@@ -4,10 +4,10 @@ ghost use Rattle.fragments.specs.Pairs.{pairs_of};
 ghost use Rattle.checks.specs.Given.{rules_of};
 ghost use Rattle.resolving.specs.Resolving.{resolved_element};
 ghost use Rattle.rules.specs.Building.{built_rules};
-ghost use Rattle.exports.specs.Rules.{rules_built, element_resolved};
+ghost use Rattle.ssr.specs.Rules.{rules_built, element_resolved};
 
+use crate::rule_answers::{BuiltRules, ResolvedElement};
 use checks::Rules;
-use exports::rule_answers::{BuiltRules, ResolvedElement};
 use fragments::pairs::Pairs;
 use resolving::{Question, resolve_element};
 use rules::building;

@@ -10,10 +10,10 @@ ghost use Rattle.std.specs.Prelude.{◌≡◌, length};
 ghost use Rattle.words.specs.Buffer.{used_of, filled};
 ghost use Rattle.parsing.specs.Reading.{reading};
 ghost use Rattle.rust_code.specs.RawCode.{code_answer, code_bytes};
-ghost use Rattle.exports.specs.Lists.{tokens_read, code_written};
+ghost use Rattle.ssr.specs.Lists.{tokens_read, code_written};
 ghost use Rattle.ssr.specs.Exports.{pair_number, file_number, rule_tree_number};
 
-use exports::{RawCode, ReadTokens};
+use ssr::list_answers::{RawCode, ReadTokens};
 
 // Reading tokens.
 #[unsafe(no_mangle)]

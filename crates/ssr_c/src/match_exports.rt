@@ -3,9 +3,9 @@ ghost use Rattle.std.specs.Prelude.{◌≡◌, length};
 ghost use Rattle.words.specs.Buffer.{used_of};
 ghost use Rattle.checks.specs.Given.{rules_of, file_of};
 ghost use Rattle.match_node.specs.MatchNode.{matched_node, buffer_after};
-ghost use Rattle.exports.specs.Matches.{restriction, node_matched};
+ghost use Rattle.ssr.specs.Matches.{restriction, node_matched};
 
-use exports::match_answers::MatchedNode;
+use ssr::match_answers::MatchedNode;
 use ssr::match_exports;
 
 // Matching one node with one rule, in a range that is given unless the flag is 0.

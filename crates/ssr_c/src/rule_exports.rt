@@ -4,9 +4,9 @@ ghost use Rattle.fragments.specs.Pairs.{pairs_of};
 ghost use Rattle.checks.specs.Given.{rules_of};
 ghost use Rattle.resolving.specs.Resolving.{resolved_element};
 ghost use Rattle.rules.specs.Building.{built_rules};
-ghost use Rattle.exports.specs.Rules.{rules_built, element_resolved};
+ghost use Rattle.ssr.specs.Rules.{rules_built, element_resolved};
 
-use exports::rule_answers::{BuiltRules, ResolvedElement};
+use ssr::rule_answers::{BuiltRules, ResolvedElement};
 use ssr::rule_exports;
 
 // Building rules, with the number of a rule that is asked for.

@@ -2,8 +2,8 @@
 use Rattle.std.proofs.Common.{drop}
 use Rattle.parsing.specs.Patterns.{vars_at}
 use Rattle.parsing.specs.Vars.{vars_of}
-use Rattle.exports.proofs.Laws.{SoFar}
-use Rattle.exports.proofs.constraints_of.Given as goal
+use Rattle.ssr.proofs.Laws.{SoFar}
+use Rattle.ssr.proofs.list_answers.constraints_of.Given as goal
 
 abbrev pub invariant-loop-placeholder : goal.invariant-loop-placeholder
 invariant-loop-placeholder l = SoFar (vars_of l.pattern) (vars_at (drop l.placeholder-index l.pattern.placeholders.items)) l.nots l.count

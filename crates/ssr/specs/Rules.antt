@@ -10,8 +10,8 @@ use Rattle.rules.specs.declared.numbering.Rule.{Rule}
 use Rattle.rules.specs.declared.building.Built.{Built}
 use Rattle.facts.specs.declared.Call.{Call}
 use Rattle.resolving.specs.declared.Element.{Element}
-use Rattle.exports.specs.declared.rule_answers.BuiltRules.{BuiltRules}
-use Rattle.exports.specs.declared.rule_answers.ResolvedElement.{ResolvedElement}
+use Rattle.ssr.specs.declared.rule_answers.BuiltRules.{BuiltRules}
+use Rattle.ssr.specs.declared.rule_answers.ResolvedElement.{ResolvedElement}
 
 -- a rule's template tree: none given, its own, the statement's, missing
 abbrev pub template_number : TemplateTree → ℕ

@@ -7,8 +7,8 @@ use Rattle.words.specs.declared.texts.Range.{Range}
 use Rattle.captures.specs.declared.Binding.{Binding}
 use Rattle.captures.specs.Effects.{kind_number}
 use Rattle.answers.specs.declared.NodeMatch.{NodeMatch}
-use Rattle.exports.specs.declared.match_answers.BoundPlaceholder.{BoundPlaceholder}
-use Rattle.exports.specs.declared.match_answers.MatchedNode.{MatchedNode}
+use Rattle.ssr.specs.declared.match_answers.BoundPlaceholder.{BoundPlaceholder}
+use Rattle.ssr.specs.declared.match_answers.MatchedNode.{MatchedNode}
 
 -- a range that is given unless the flag is 0
 abbrev pub restriction : ℕ → ℕ → ℕ → Option Range

@@ -1,8 +1,8 @@
 -- `write_edits::write_rows` meets its contract.
 use mathlib.Core.Path.{refl, ◌∙◌}
 use Rattle.std.proofs.Common.{rules}
-use Rattle.write_edits.proofs.ListLaws.{laying_none, laying_next, laying_ends}
-use Rattle.write_edits.proofs.write_rows.Goals as goal
+use Rattle.job_list.proofs.EditsLaws.{laying_none, laying_next, laying_ends}
+use Rattle.job_list.proofs.write_edits.write_rows.Goals as goal
 
 pub loop-k-init : goal.loop-k-init
 loop-k-init g c = (laying_none c.args.handed.now c.args.out.now, refl, c.requires.at_hand)

@@ -6,9 +6,9 @@ use Rattle.errors.specs.Refusals.{number_of}
 use Rattle.parsing.specs.Reading.{Var, Reading, placeholders_in}
 use Rattle.parsing.specs.Patterns.{all_nots}
 use Rattle.rust_code.specs.RawCode.{written_number, written_length}
-use Rattle.exports.specs.declared.RawCode.{RawCode}
-use Rattle.exports.specs.declared.NamedPlaceholder.{NamedPlaceholder}
-use Rattle.exports.specs.declared.ReadTokens.{ReadTokens}
+use Rattle.ssr.specs.declared.list_answers.RawCode.{RawCode}
+use Rattle.ssr.specs.declared.list_answers.NamedPlaceholder.{NamedPlaceholder}
+use Rattle.ssr.specs.declared.list_answers.ReadTokens.{ReadTokens}
 
 -- a list with an element behind it up to n
 abbrev pub padded_to : {A : Type 0} → ℕ → A → List A → List A

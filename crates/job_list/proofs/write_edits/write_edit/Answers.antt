@@ -6,9 +6,9 @@ use Rattle.std.proofs.Common.{rules}
 use Rattle.words.specs.Buffer.{laid_if_room}
 use Rattle.edits.specs.Edits.{edit_words}
 use Rattle.nester.specs.Rows.{row_at}
-use Rattle.write_edits.specs.Lists.{node_start, node_end}
-use Rattle.write_edits.proofs.EditLaws.{begins_behind, put_same, all_same, event_left, done_left}
-use Rattle.write_edits.proofs.write_edit.Goals as goal
+use Rattle.job_list.specs.Lists.{node_start, node_end}
+use Rattle.job_list.proofs.EditLaws.{begins_behind, put_same, all_same, event_left, done_left}
+use Rattle.job_list.proofs.write_edits.write_edit.Goals as goal
 
 pub returns-in_err-behind-clause-out_unchanged : goal.returns-in_err-behind-clause-out_unchanged
 returns-in_err-behind-clause-out_unchanged g c = let a = c.args in let p = c.put in let r = c.render_replace in

@@ -1,6 +1,6 @@
 // The answer of the operation that matches.
 ghost use Rattle.std.specs.Prelude.{◌≡◌};
-ghost use Rattle.exports.specs.Matches.{bound_numbers, nothing_matched, node_matched};
+ghost use Rattle.ssr.specs.Matches.{bound_numbers, nothing_matched, node_matched};
 
 use answers::NodeMatch;
 use captures::Binding;

@@ -1,6 +1,6 @@
 // The answers of the operations on rules.
 ghost use Rattle.std.specs.Prelude.{◌≡◌};
-ghost use Rattle.exports.specs.Rules.{rules_built, element_numbers, nothing_resolved, element_resolved};
+ghost use Rattle.ssr.specs.Rules.{rules_built, element_numbers, nothing_resolved, element_resolved};
 
 use errors::Refusal;
 use resolving::Element;

@@ -7,7 +7,7 @@ use lib.Seq.{set_at}
 use Rattle.parsing.specs.declared.patterns.Placeholder.{Placeholder}
 use Rattle.parsing.specs.Reading.{Var}
 use Rattle.parsing.specs.Patterns.{var_of, vars_at, all_nots}
-use Rattle.exports.specs.Lists.{padded_to, name_of, no_name}
+use Rattle.ssr.specs.Lists.{padded_to, name_of, no_name}
 
 drop_padding : {A : Type 0} (n k : ℕ) (z : A) → drop k (replicate n z) ≡ replicate (n - k) z
 drop_padding zero zero z = refl

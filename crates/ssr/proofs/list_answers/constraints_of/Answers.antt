@@ -3,8 +3,8 @@ use Rattle.std.proofs.Common.{◌≡◌, ap, length, drop, arith, ◌+◌, ◌-�
 use Rattle.parsing.specs.Patterns.{var_of, vars_at}
 use Rattle.parsing.specs.Vars.{vars_of}
 use Rattle.rust_code.proofs.Laws.{vars_step, vars_end}
-use Rattle.exports.proofs.Laws.{so_far_fits, so_far_more, so_far_end}
-use Rattle.exports.proofs.constraints_of.Goals as goal
+use Rattle.ssr.proofs.Laws.{so_far_fits, so_far_more, so_far_end}
+use Rattle.ssr.proofs.list_answers.constraints_of.Goals as goal
 
 pub slice_bounds-nots-end : goal.slice_bounds-nots-end
 slice_bounds-nots-end c =

@@ -27,7 +27,7 @@ use Rattle.render_replace.specs.Worlds.{Handed, Shown}
 use Rattle.render_replace.specs.Turns.{TextLeft}
 use Rattle.render_replace.proofs.StackLaws.{before_less}
 use Rattle.collections.specs.Worlds.{is_outer}
-use Rattle.write_edits.specs.Lists.{node_start, node_end, edit_over, row_edit, EditLeft}
+use Rattle.job_list.specs.Lists.{node_start, node_end, edit_over, row_edit, EditLeft}
 
 -- bytes behind those that are laid
 drop-laid : (d : List ℕ) (at : ℕ) (bs : List ℕ) → at + length bs ≤ length d → drop (at + length bs) (laid d at bs) ≡ drop (at + length bs) d

@@ -10,8 +10,8 @@ use Rattle.rendering.specs.Events.{Event}
 use Rattle.rendering.specs.Traces.{within}
 use Rattle.edits.specs.Answers.{answer_of, bytes_of}
 use Rattle.edits.proofs.BufferLaws.{filled_alike}
-use Rattle.write_edits.specs.Lists.{row_edits}
-use Rattle.write_edits.proofs.write_edits.Goals as goal
+use Rattle.job_list.specs.Lists.{row_edits}
+use Rattle.job_list.proofs.write_edits.write_edits.Goals as goal
 
 pub answer-requires : goal.answer-requires
 answer-requires g c = let r = c.write_rows-laid in let w = c.requires.shown in

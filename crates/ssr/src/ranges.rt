@@ -1,6 +1,6 @@
 // The range that matches have to be in, as it is handed over.
 ghost use Rattle.std.specs.Prelude.{◌≡◌};
-ghost use Rattle.exports.specs.Matches.{restriction};
+ghost use Rattle.ssr.specs.Matches.{restriction};
 
 use words::texts::Range;
 

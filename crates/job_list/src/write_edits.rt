@@ -1,6 +1,4 @@
 // The edit list of a job, from front to back: an edit for each outer row, with its text and those nested in it.
-#![tactic(auto)]
-
 ghost use Rattle.std.specs.Prelude.{◌≡◌, ◌≤◌, ◌<◌, length, take};
 ghost use Rattle.words.specs.Buffer.{filled};
 ghost use Rattle.rendering.specs.Traces.{Trace, within};
@@ -9,7 +7,7 @@ ghost use Rattle.collections.specs.Worlds.{is_outer};
 ghost use Rattle.rows.specs.Rows.{World};
 ghost use Rattle.render_replace.specs.Worlds.{Shown, AtHand};
 ghost use Rattle.render_replace.specs.Answers.{Answers};
-ghost use Rattle.write_edits.specs.Lists.{EditLeft, EditsLeft, node_start, node_end, edits_within};
+ghost use Rattle.job_list.specs.Lists.{EditLeft, EditsLeft, node_start, node_end, edits_within};
 
 use edits::{EditHead, Edited};
 use errors::Refusal;
@@ -78,7 +76,7 @@ fn write_edit<'a, const N: usize>(
 }
 
 // The edits of all rows, from the front.
-#[tactic(auto, using(crate::proofs::ListLaws::laying_all))]
+#[tactic(auto, using(crate::proofs::EditsLaws::laying_all))]
 fn write_rows<'a, const N: usize>(
     handed: &Handed<'_, 'a, N>,
     frames: &mut [Frame],

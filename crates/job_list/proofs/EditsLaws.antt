@@ -23,8 +23,8 @@ use Rattle.rows.proofs.BetweenLaws.{length-between, between_none, grows_between}
 use Rattle.collections.specs.Worlds.{outer_item}
 use Rattle.render_replace.specs.Answers.{Stops, Answers}
 use Rattle.render_replace.specs.Worlds.{Handed, Shown}
-use Rattle.write_edits.specs.Lists.{node_start, node_end, row_edit, row_edits, EditLeft, EditsLeft}
-use Rattle.write_edits.proofs.EditLaws.{then_nothing}
+use Rattle.job_list.specs.Lists.{node_start, node_end, row_edit, row_edits, EditLeft, EditsLeft}
+use Rattle.job_list.proofs.EditLaws.{then_nothing}
 
 list_append : (start_of end_of : ℕ → ℕ) (xs ys : List (Item Trace))
     → list_trace start_of end_of (xs ++ ys) ≡ (list_trace start_of end_of xs then list_trace start_of end_of ys)

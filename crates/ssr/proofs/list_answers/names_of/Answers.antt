@@ -1,7 +1,7 @@
 -- `exports::names_of` meets its contract.
 use Rattle.std.proofs.Common.{ap, length, arith}
-use Rattle.exports.proofs.Laws.{named_on}
-use Rattle.exports.proofs.names_of.Goals as goal
+use Rattle.ssr.proofs.Laws.{named_on}
+use Rattle.ssr.proofs.list_answers.names_of.Goals as goal
 
 pub loop-i-preserved : goal.loop-i-preserved
 loop-i-preserved c =

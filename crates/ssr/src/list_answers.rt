@@ -1,14 +1,8 @@
-// What crosses the C ABI as numbers: each answer turned into a struct of numbers, and a range as it is handed over.
-#![tactic(auto)]
-
-pub mod ranges; // ranges.rt: a range as it is handed over
-pub mod rule_answers; // rule_answers.rt: the answers of the operations on rules
-pub mod match_answers; // match_answers.rt: the answer of the operation that matches
-
+// The answers of the operations on one list, in numbers.
 ghost use Rattle.std.specs.Prelude.{◌≡◌, map, length};
 ghost use Rattle.parsing.specs.Patterns.{var_of, all_nots};
 ghost use Rattle.parsing.specs.Vars.{vars_of, placeholders_read};
-ghost use Rattle.exports.specs.Lists.{padded_to, no_name, name_of, tokens_of, code_written};
+ghost use Rattle.ssr.specs.Lists.{padded_to, no_name, name_of, tokens_of, code_written};
 
 use errors::Refusal;
 use parsing::patterns::{Pattern, Placeholder};

@@ -1,3 +1,0 @@
-pub mod Lists
-pub mod Rules
-pub mod Matches

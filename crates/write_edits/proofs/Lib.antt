@@ -1,3 +1,0 @@
--- Laws of the edits of rows.
-pub mod EditLaws
-pub mod ListLaws
