@@ -4,8 +4,7 @@
  * A slice is handed over as two arguments, a pointer to its first element and its number of elements. The
  * pointer of an empty slice is not read, and must not be null. The slice that is written to, `out`, shares no
  * byte with another. Nothing is kept after a call, nothing is allocated, and no call fails: for every input,
- * damaged ones too, the result is the one that the definitions under crates/exports/specs and
- * crates/ssr/specs give.
+ * damaged ones too, the result is the one that the definitions under crates/ssr/specs give.
  *
  * In an answer everything that is not used is 0; after a refusal that is all but its number.
  *
