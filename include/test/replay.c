@@ -1,7 +1,7 @@
 /* Holds include/ssr.h against the archive: calls the exported function of each record of the sample that
  * crates/replay stores, on standard input, and compares every field of the answer and every byte of the
  * buffer with the record's. It prints what the program crates/replay prints; what is wrong with a record goes
- * to standard error. crates/replaying/src/records.rt says what a record is.
+ * to standard error. crates/replay/src/records.rt says what a record is.
  */
 #include "ssr.h"
 
