@@ -12,7 +12,7 @@ use facts::Owner;
 use fragments::forms::{Form, Side};
 use fragments::pairs::{Pair, Pairs};
 use tokens::TokenList;
-use tree_checks::TreeText;
+use trees::tree_checks::TreeText;
 use trees::GivenTree;
 
 // A stage of checks.

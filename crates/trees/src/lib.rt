@@ -1,20 +1,23 @@
 // Trees with their facts, wherever they are given: 18 to 21 of the file's and of a rule's.
 #![tactic(auto)]
 
+pub mod tree_checks; // tree_checks.rt: whether words are a well-formed tree (18, 19, 20)
+mod fact_checks; // fact_checks.rt: whether words are the well-formed facts of a tree (21)
+
 ghost use Rattle.std.specs.Prelude.{◌≡◌, true, ◌↔◌, ◌/◌, ◌≤◌, length, option_map, IfOk};
 ghost use Rattle.errors.specs.Refusals.{ok};
 ghost use Rattle.tokens.specs.Tokens.{parts_of};
 ghost use Rattle.facts.specs.declared.Owner.TheVariants as owners;
 ghost use Rattle.trees.specs.Given.{with_facts, file_outcome, rule_outcome, right_text, given_outcome, Stands, outcome_of, Holds};
 
+use crate::fact_checks::FactTree;
+use crate::tree_checks::TreeText;
 use errors::Refusal;
-use fact_checks::FactTree;
 use facts::{Facts, IndexTables, Owner};
 use parsing::reading;
 use rust_code::tree_text;
 use syntax::trees::Tree;
 use tokens::TokenList;
-use tree_checks::TreeText;
 
 // A file as it is handed in: the words of its tree, its text, and the words of its facts.
 #[derive(Clone, Copy)]

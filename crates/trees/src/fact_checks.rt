@@ -1,6 +1,4 @@
 // Whether words are the well-formed facts of a tree (21): each fact by its words, its sort, its element and its values, and then the list.
-#![tactic(auto)]
-
 ghost use Rattle.std.specs.Prelude.{◌≡◌, true, false, cond, ◌&&◌, ◌≤◌, ◌/◌, length, IfOk, IfErr};
 ghost use Rattle.errors.specs.Refusals.{ok, err};
 ghost use Rattle.errors.specs.declared.Refusal.TheVariants.{MalformedFacts};

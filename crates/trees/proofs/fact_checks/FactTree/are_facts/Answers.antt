@@ -1,9 +1,9 @@
--- `fact_checks::are_facts` meets its contract.
+-- `trees::fact_checks::are_facts` meets its contract.
 use mathlib.Core.Path.{sym, ◌∙◌}
 use native.Mathlib.Omega.{arith}
 use Rattle.syntax.specs.Views.{tree_of}
-use Rattle.fact_checks.proofs.FactLaws.{words_uneven, all_more, all_stop, even_more, all_end}
-use Rattle.fact_checks.proofs.FactTree.are_facts.Goals as goal
+use Rattle.trees.proofs.FactLaws.{words_uneven, all_more, all_stop, even_more, all_end}
+use Rattle.trees.proofs.fact_checks.FactTree.are_facts.Goals as goal
 
 pub returns-then-words-ne0 : goal.returns-then-words-ne0
 returns-then-words-ne0 c = rw (words_uneven c.args.words.now c.if-words-ne0.true)

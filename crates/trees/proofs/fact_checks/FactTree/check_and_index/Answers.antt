@@ -1,10 +1,10 @@
--- `fact_checks::check_and_index` meets its contract.
+-- `trees::fact_checks::check_and_index` meets its contract.
 use mathlib.Core.Path.{refl, sym, ◌∙◌}
 use native.Mathlib.Omega.{arith}
 use Rattle.facts.proofs.ListLaws.{list_low}
 use Rattle.syntax.proofs.FormedLaws.{formed_is}
-use Rattle.fact_checks.proofs.ListLaws.{list_many, list_other, list_whole}
-use Rattle.fact_checks.proofs.FactTree.check_and_index.Goals as goal
+use Rattle.trees.proofs.ListLaws.{list_many, list_other, list_whole}
+use Rattle.trees.proofs.fact_checks.FactTree.check_and_index.Goals as goal
 
 pub returns-then-words-gt-MAX_FACTS-clause-refused : goal.returns-then-words-gt-MAX_FACTS-clause-refused
 returns-then-words-gt-MAX_FACTS-clause-refused c = let a = c.args in (refl, list_many a.self.owner a.self.tree.words.now a.self.bytes a.words.now (omega arith))

@@ -1,8 +1,8 @@
--- `tree_checks::is_shallow` meets its contract.
+-- `trees::tree_checks::is_shallow` meets its contract.
 use Rattle.std.proofs.Common.{◌≡◌, leb}
 use Rattle.syntax.specs.Trees.{depth}
 use Rattle.syntax.specs.Views.{elems_of}
-use Rattle.tree_checks.proofs.+is_shallow.Given as goal
+use Rattle.trees.proofs.tree_checks.+is_shallow.Given as goal
 
 abbrev pub decreases-is_shallow : goal.decreases-is_shallow
 decreases-is_shallow l = l.levels

@@ -1,6 +1,4 @@
 // Whether words are a well-formed tree over a text: 18, 19 and 20.
-#![tactic(auto)]
-
 ghost use Rattle.std.specs.Prelude.{◌≡◌, ◌≤◌, ◌<◌, ◌*◌, ◌/◌, leb, length, IfOk, IfErr, MatchOption};
 ghost use Rattle.errors.specs.Refusals.{ok, err};
 ghost use Rattle.syntax.specs.Parts.{span, rest_words};
