@@ -25,7 +25,7 @@ use Rattle.captures.specs.declared.State.{State}
 use Rattle.captures.proofs.AttemptLaws.{given_true, given_false, then_right, gives_failed, gives_then, fails_then}
 use Rattle.matcher.specs.Matcher.{Matcher}
 use Rattle.matching.specs.Matching.{match_node, NodeGives}
-use Rattle.first_phase.specs.FirstPhase.{NodeFails}
+use Rattle.get_match.specs.FirstPhase.{NodeFails}
 use Rattle.get_match.specs.GetMatch.{is_within, TryGives}
 
 -- a well-formed tree has a root

@@ -1,2 +1,3 @@
 pub mod Templates
 pub mod GetMatch
+pub mod FirstPhase

@@ -1,6 +1,7 @@
 // `get_match` of docs/src/src/matching.rs on input that was checked: one node of a file with one rule that was made ready.
 #![tactic(auto)]
 
+pub mod first_phase; // first_phase.rt: cheap checks, which say soon that a node cannot match
 pub mod templates; // templates.rt: whether the template's paths can be rendered for a module
 
 ghost use Rattle.std.specs.Prelude.{◌≡◌, true, ◌+◌, length, option_copied};
@@ -10,8 +11,8 @@ ghost use Rattle.matcher.specs.Matcher.{matcher_of};
 ghost use Rattle.get_match.specs.Templates.{renders_given};
 ghost use Rattle.get_match.specs.GetMatch.{is_within, TryGives};
 
+use crate::first_phase::checking;
 use captures::State;
-use first_phase::checking;
 use matcher::Matcher;
 use matching::attempt_match;
 use paths::Resolved;

@@ -23,7 +23,12 @@ pub fn check_job<'a, const N: usize>(
     ensures given_is { IfOk result (λ job. job_in job.given ≡ job_in given.entry) }
 {
     let rules = given.inputs.rules();
-    let accepted = resolved::check_and_resolve(rules, given.inputs.file, tables, index)?;
+    let accepted = rule_paths::accepted::check_and_resolve(
+        rules,
+        given.inputs.file,
+        tables,
+        index,
+    )?;
     let asked = job_checks::check_asked(&given, accepted.file.tree, keys)?;
     Ok(CheckedJob::new(given, accepted.rules, accepted.file, asked))
 }

@@ -1,4 +1,6 @@
--- Laws of the definitions of specs/, for this crate and those above it.
+-- Laws of the definitions of `parses` and of specs/, for this crate and those above it.
 pub mod CheckLaws
 pub mod TemplateLaws
 pub mod JobLaws
+mod RangeLaws
+mod MarkLaws

@@ -1,2 +1,3 @@
 pub mod Checks
 pub mod Checked
+pub mod Marks

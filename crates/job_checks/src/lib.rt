@@ -1,6 +1,8 @@
 // A job, and its checks behind 22, in document 01's order: 24 to 28.
 #![tactic(auto)]
 
+pub mod parse_checks; // parse_checks.rt: whether the parses that are handed in are well-formed (28)
+
 ghost use Rattle.std.specs.Prelude.{◌≡◌, not, ◌≤◌, length, [], IfOk};
 ghost use Rattle.errors.specs.Refusals.{ok};
 ghost use Rattle.sorting.specs.Sorted.{sort};

@@ -10,7 +10,7 @@ ghost use Rattle.job_list.specs.Gathered.{Gathers, Gathered};
 use crate::match_rows;
 use job_checks::CheckedJob;
 use nester::Row;
-use preparing::{MatchTables, Prepared};
+use rule_match::preparing::{MatchTables, Prepared};
 
 // The row of one candidate, with its rule made ready. Comments are not laid: there is no room for any.
 #[tactic(auto, using(crate::proofs::GatherLaws::node_low, crate::proofs::GatherLaws::row_is))]

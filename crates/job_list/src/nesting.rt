@@ -6,7 +6,7 @@ ghost use Rattle.job_list.specs.Rows.{RowsOf};
 use crate::gathering;
 use job_checks::CheckedJob;
 use nester::Row;
-use preparing::MatchTables;
+use rule_match::preparing::MatchTables;
 
 // Which candidates of a job match, and what becomes of each match: a row for each key.
 pub fn nest_candidates<const N: usize>(

@@ -16,7 +16,7 @@ use Rattle.matcher.specs.declared.token_matching.Skip.{Skip}
 use Rattle.matcher.specs.Tokens.{is_extra, past_separator, is_same_token, matches_token, after_token, skips}
 use Rattle.matcher.proofs.TokenLaws.{same_token_is}
 use Rattle.record_fields.specs.Fields.{pattern_name}
-use Rattle.ordered_fields.specs.Order.{next, past, partner, is_same}
+use Rattle.record_fields.specs.Order.{next, past, partner, is_same}
 use Rattle.matching.specs.StartingOver.{field_by_name, by_name, notes_beside, again}
 
 -- ---- the next one that is no token

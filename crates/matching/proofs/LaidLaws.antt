@@ -29,7 +29,7 @@ use Rattle.captures.proofs.AgainLaws.{laid_silent}
 use Rattle.matcher.specs.Matcher.{Matcher, has_placeholder_name}
 use Rattle.record_fields.specs.Fields.{pattern_name}
 use Rattle.matcher.specs.declared.Siblings.{Siblings}
-use Rattle.ordered_fields.specs.Order.{partner, asks, AsksFor}
+use Rattle.record_fields.specs.Order.{partner, asks, AsksFor}
 use Rattle.matching.specs.StartingOver.{meets}
 use Rattle.matching.specs.Matching.{enough, match_node, match_sequences, match_opt, SequencesGive, NotedGives, Went, Stands}
 use Rattle.matching.proofs.StepLaws.{sequence_node, opt_both}

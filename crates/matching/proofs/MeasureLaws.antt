@@ -17,7 +17,7 @@ use Rattle.captures.proofs.AttemptLaws.{laid-append, laid-length, recorded-appen
 use Rattle.captures.proofs.AgainLaws.{notes-later, laid_silent, silent_stays}
 use Rattle.matcher.specs.Matcher.{Matcher, has_placeholder_name}
 use Rattle.token_trees.proofs.FuelLaws.{Below}
-use Rattle.ordered_fields.specs.Order.{next, partner, is_beside}
+use Rattle.record_fields.specs.Order.{next, partner, is_beside}
 use Rattle.matching.specs.StartingOver.{again, is_silent}
 use Rattle.matching.specs.Matching.{match_opt, owed}
 use Rattle.matching.proofs.AlongLaws.{next_past, next_here, next_trivia, again-next, again_cursor, again_stops, again_node}

@@ -22,7 +22,7 @@ use Rattle.captures.proofs.AttemptLaws.{then_nothing, gives_done, gives_failed, 
 use Rattle.captures.proofs.AgainLaws.{laid_silent, silent_stays}
 use Rattle.matcher.specs.Matcher.{Matcher, has_placeholder_name}
 use Rattle.matcher.specs.declared.Siblings.{Siblings}
-use Rattle.ordered_fields.specs.Order.{partner, AsksFor}
+use Rattle.record_fields.specs.Order.{partner, AsksFor}
 use Rattle.matching.specs.StartingOver.{again, is_silent, meets}
 use Rattle.matching.specs.Matching.{enough, match_node, match_sequences, match_opt, SequencesGive, NodeGives, MeasuredGives, owed, Went}
 use Rattle.matching.proofs.StepLaws.{sequence_end, sequence_node, opt_both}

@@ -26,7 +26,7 @@ use Rattle.matcher.specs.Matcher.{Matcher, has_placeholder_name}
 use Rattle.record_fields.specs.Fields.{pattern_name, is_free, are_asked, FieldIs}
 use Rattle.matcher.specs.declared.Siblings.{Siblings}
 use Rattle.record_fields.specs.declared.Field.TheVariants.{Unnamed, Taken, Last}
-use Rattle.ordered_fields.specs.Order.{starts_over, next, past, partner, is_same, is_beside}
+use Rattle.record_fields.specs.Order.{starts_over, next, past, partner, is_same, is_beside}
 use Rattle.matching.specs.RecordFields.{match_fields}
 use Rattle.matching.specs.StartingOver.{field_by_name, by_name, again, is_silent}
 use Rattle.matching.specs.Matching.{enough, match_node, match_sequences, match_opt, match_record_field_list, SequencesGive, OptGives, RecordGives, FieldGives, ByNameGives, MeasuredGives, Stands}

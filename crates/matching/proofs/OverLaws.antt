@@ -32,7 +32,7 @@ use Rattle.matcher.proofs.TokenLaws.{same_token_is}
 use Rattle.record_fields.specs.Fields.{pattern_name, are_asked, is_free, is_field, last_field}
 use Rattle.matching.specs.RecordFields.{match_fields}
 use Rattle.matching.specs.Matching.{match_node, match_sequences, match_opt}
-use Rattle.ordered_fields.specs.Order.{starts_over, next, past, partner, is_same}
+use Rattle.record_fields.specs.Order.{starts_over, next, past, partner, is_same}
 use Rattle.matching.specs.StartingOver.{by_name, again, is_silent}
 use Rattle.matching.proofs.GiveLaws.{same_gives}
 use Rattle.matching.proofs.StepLaws.{opt_both, sequence_end, sequence_trivia, sequence_token, sequence_other-token, sequence_node, sequence_other}

@@ -14,7 +14,7 @@ use Rattle.syntax.specs.declared.parts.Part.{Part}
 use Rattle.matcher.specs.Matcher.{Matcher, has_placeholder_name}
 use Rattle.record_fields.specs.Fields.{pattern_name}
 use Rattle.matcher.specs.declared.Siblings.{Siblings}
-use Rattle.ordered_fields.specs.Order.{partner, is_same, is_beside, AsksFor}
+use Rattle.record_fields.specs.Order.{partner, is_same, is_beside, AsksFor}
 use Rattle.matching.specs.StartingOver.{meets}
 use Rattle.matching.proofs.AlongLaws.{next_here}
 use Rattle.matching.proofs.OverLaws.{Tail, whole, last_tail, elems_unique}

@@ -23,7 +23,7 @@ use Rattle.captures.proofs.AttemptLaws.{laid-one-length, laid-length, comments-a
 use Rattle.captures.proofs.PartLaws.{events_of, Parted, parted, given_holds}
 use Rattle.matcher.specs.Matcher.{Matcher, has_placeholder_name}
 use Rattle.record_fields.specs.Fields.{pattern_name, is_free}
-use Rattle.ordered_fields.specs.Order.{next, partner}
+use Rattle.record_fields.specs.Order.{next, partner}
 use Rattle.matching.specs.StartingOver.{field_by_name, by_name}
 use Rattle.matching.specs.Matching.{Stood}
 use Rattle.matching.proofs.AlongLaws.{next_trivia, by_next, by_node}

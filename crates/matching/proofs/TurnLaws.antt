@@ -22,7 +22,7 @@ use Rattle.captures.specs.Turns.{GoesOn}
 use Rattle.captures.proofs.AttemptLaws.{gives_done, then_right}
 use Rattle.matcher.specs.Matcher.{Matcher}
 use Rattle.matcher.specs.Tokens.{note, TokenIs}
-use Rattle.ordered_fields.specs.Order.{next}
+use Rattle.record_fields.specs.Order.{next}
 use Rattle.matching.specs.Matching.{enough, match_node, match_sequences, NodeGives, SequencesGive, Went}
 use Rattle.matching.proofs.StepLaws.{sequence_trivia, sequence_token, sequence_other-token, sequence_node, sequence_other}
 use Rattle.matching.proofs.GiveLaws.{same_gives, from_step, fails_at, first_fails, both_match}

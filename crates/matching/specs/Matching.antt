@@ -20,7 +20,7 @@ use Rattle.token_trees.specs.TokenTrees.{match_token_tree}
 use Rattle.matcher.specs.declared.Siblings.{Siblings}
 use Rattle.calls.specs.Calls.{call_of, arguments_of, argument_of, receiver_of, first_fits, same_resolution, same_function, takes_receiver, receiver_fits, prefixed, arguments_left}
 use Rattle.matching.specs.RecordFields.{match_fields}
-use Rattle.ordered_fields.specs.Order.{next}
+use Rattle.record_fields.specs.Order.{next}
 use Rattle.matching.specs.StartingOver.{field_by_name, by_name, again}
 
 -- a placeholder takes the node, where its constraints allow it; "LITERAL", kind 66

@@ -11,7 +11,7 @@ use Rattle.captures.specs.Attempts.{Event, Attempt, matched, and_then, given, no
 use Rattle.captures.specs.declared.State.{State}
 use Rattle.matcher.specs.Matcher.{Matcher, has_placeholder_name}
 use Rattle.record_fields.specs.Fields.{pattern_name, is_free}
-use Rattle.ordered_fields.specs.Order.{past, partner, is_same, is_beside}
+use Rattle.record_fields.specs.Order.{past, partner, is_same, is_beside}
 
 -- the pattern's siblings by name, up to the first one whose name is a placeholder; those that are matched by order may be left out
 abbrev pub field_by_name : Bool → (Elems → Elems → Attempt) → Matcher → Elems → Elems → Elems → Elems → Attempt

@@ -11,7 +11,7 @@ ghost use Rattle.matching.specs.StartingOver.{is_silent, meets};
 
 use captures::{SelfKind, State, Turn};
 use matcher::{Matcher, Siblings};
-use record_fields::Field;
+use record_fields::{Field, ordered_fields};
 use syntax::kinds::{
     ARG_LIST, CALL_EXPR, GENERIC_ARG_LIST, Kinds, LITERAL, METHOD_CALL_EXPR,
     PARENTHESIZED_ARG_LIST, PATH, PATH_SEGMENT, RECORD_EXPR_FIELD_LIST, TOKEN_TREE, TRIVIA,

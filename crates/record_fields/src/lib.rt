@@ -1,6 +1,8 @@
 // The fields of record lists by name. Without a heap there is no map: a name is looked for among the code's siblings, or the pattern's.
 #![tactic(auto)]
 
+pub mod ordered_fields; // ordered_fields.rt: record lists that start over
+
 ghost use Rattle.std.specs.Prelude.{◌≡◌};
 ghost use Rattle.syntax.specs.Views.{elems_of, IsWithin};
 ghost use Rattle.matcher.specs.Matcher.{matcher_of};

@@ -7,8 +7,8 @@ ghost use Rattle.render_replace.specs.Worlds.{noted_in, noted_comments};
 use crate::Handed;
 use captures::State;
 use nester::Row;
-use preparing::MatchTables;
 use rule_match::Question;
+use rule_match::preparing::MatchTables;
 
 // How many bytes of comments a match noted.
 fn noted_in(state: Option<State>) -> usize

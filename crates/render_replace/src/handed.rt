@@ -3,7 +3,7 @@ ghost use Rattle.std.specs.Prelude.{◌≤◌};
 
 use nester::Row;
 use parses::Parses;
-use preparing::MatchTables;
+use rule_match::preparing::MatchTables;
 use rule_paths::ResolvedRules;
 use std::marker::Model;
 use templates::Piece;

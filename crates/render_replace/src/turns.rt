@@ -14,11 +14,11 @@ use captures::Binding;
 use nester::{Nesting, Row};
 use parentheses::Part;
 use parses::Parses;
-use preparing::MatchTables;
 use readying::ReadyTemplate;
 use readying::reading::Fragments;
 use replacing::{Event, Matches, Step, Template, steps};
 use rows::frames::Frame;
+use rule_match::preparing::MatchTables;
 
 // Behind the text of a row, or the part of it that ends where a row nested in it begins: the place, and the row that rendering goes on in, if
 // any.

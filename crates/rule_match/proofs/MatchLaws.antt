@@ -21,7 +21,7 @@ use Rattle.checks.specs.Given.{File, file_in, found_rule}
 use Rattle.rules.specs.declared.numbering.Rule.{Rule}
 use Rattle.get_match.specs.Templates.{renders_given}
 use Rattle.get_match.specs.GetMatch.{TryGives}
-use Rattle.preparing.specs.Ready.{form_matcher}
+use Rattle.rule_match.specs.Ready.{form_matcher}
 use Rattle.rule_match.specs.RuleMatch.{rule_match, found_match, attempt_of}
 
 -- ---- the matcher of a rule and a file

@@ -1,1 +1,2 @@
 pub mod RuleMatch
+pub mod Ready

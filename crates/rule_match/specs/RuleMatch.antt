@@ -15,7 +15,7 @@ use Rattle.get_match.specs.Templates.{renders_given}
 use Rattle.get_match.specs.GetMatch.{try_match}
 use Rattle.checks.specs.declared.Rules.{Rules}
 use Rattle.checks.specs.Given.{File, found_rule}
-use Rattle.preparing.specs.Ready.{pattern_root, form_matcher}
+use Rattle.rule_match.specs.Ready.{pattern_root, form_matcher}
 
 -- the template that the rule has, if any, can be rendered where the node was matched
 abbrev pub template_renders : Pair → Form → TemplateTree → File → ℕ → Bool

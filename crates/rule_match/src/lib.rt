@@ -1,14 +1,16 @@
 // One node of the file with one rule of those handed in.
 #![tactic(auto)]
 
+pub mod preparing; // preparing.rt: a rule made ready for matching
+
 ghost use Rattle.std.specs.Prelude.{◌≡◌, true, length};
 ghost use Rattle.captures.specs.Effects.{nothing, Gives};
 ghost use Rattle.checks.specs.Given.{file_in, is_node_of};
 ghost use Rattle.rule_match.specs.RuleMatch.{rule_match, attempt_of};
 
+use crate::preparing::{MatchTables, Prepared};
 use captures::State;
 use get_match::get_match;
-use preparing::{MatchTables, Prepared};
 use rule_paths::{ResolvedRule, ResolvedRules};
 use trees::File;
 use words::texts::Range;

@@ -4,6 +4,7 @@
 pub mod tables; // tables.rt: what resolving works in
 pub mod passed; // passed.rt: a pair whose trees passed their checks
 pub mod resolved; // resolved.rt: rules whose paths resolve
+pub mod accepted; // accepted.rt: rules and a file that pass 1 to 22
 
 pub use passed::PassedPair;
 pub use resolved::{ResolvedRule, ResolvedRules};

@@ -12,8 +12,8 @@ use facts::Owner;
 use fragments::forms::{Form, Side};
 use fragments::pairs::{Pair, Pairs};
 use tokens::TokenList;
-use trees::tree_checks::TreeText;
 use trees::GivenTree;
+use trees::tree_checks::TreeText;
 
 // A stage of checks.
 #[derive(Clone, Copy)]

@@ -24,7 +24,7 @@ use Rattle.matcher.specs.declared.Matcher as declared
 use Rattle.trees.specs.declared.File.{File as Accepted}
 use Rattle.checks.specs.declared.Rules.{Rules}
 use Rattle.checks.specs.Given.{file_in, found_rule}
-use Rattle.preparing.specs.Ready.{form_matcher}
+use Rattle.rule_match.specs.Ready.{form_matcher}
 use Rattle.rule_match.specs.RuleMatch.{calls, attempt_of}
 use Rattle.candidates.specs.Candidates.{Candidate}
 use Rattle.walk_nodes.specs.WalkCandidates.{nodes_of, walk_candidates, accepted}

@@ -6,7 +6,7 @@ ghost use Rattle.rule_match.specs.RuleMatch.{attempt_of};
 ghost use Rattle.walk_nodes.specs.WalkCandidates.{nodes_of, walk_candidates, accepted};
 ghost use Rattle.walk_nodes.specs.Finds.{Finds};
 
-use preparing::{MatchTables, Prepared};
+use rule_match::preparing::{MatchTables, Prepared};
 use rule_paths::ResolvedRules;
 use trees::File;
 use walk_nodes::find_nodes;

@@ -14,8 +14,8 @@ ghost use Rattle.walk_answers.specs.Walkable.{Walkable, FoundJob};
 use errors::Refusal;
 use facts::IndexTables;
 use job_checks::{CheckedJob, GivenJob, Inputs};
-use resolved::Accepted;
 use rule_paths::Tables;
+use rule_paths::accepted::Accepted;
 use rules::numbering;
 use walk_nodes::found::Found;
 
@@ -50,7 +50,12 @@ pub fn check_walk<'a, const N: usize>(
     ensures value { outcome_of result ≡ before_matches (walk_in given.now) }
     ensures walkable { IfOk result (λ a. Walkable (walk_in given.now) a.rules a.file) }
 {
-    let accepted = resolved::check_and_resolve(given.rules(), given.file, tables, index)?;
+    let accepted = rule_paths::accepted::check_and_resolve(
+        given.rules(),
+        given.file,
+        tables,
+        index,
+    )?;
     check_rules(given)?;
     Ok(accepted)
 }
@@ -69,7 +74,7 @@ pub fn check_found<'a, const N: usize>(
 {
     let candidates = found.words();
     let keys = &mut keys[..found.len()];
-    let parses = parse_checks::check_parses(given.parses, given.parse_text)?;
+    let parses = job_checks::parse_checks::check_parses(given.parses, given.parse_text)?;
     candidates::order_candidates(candidates, keys);
     Ok(CheckedJob {
         given: GivenJob {

@@ -17,7 +17,7 @@ use Rattle.captures.specs.Attempts.{Attempt, failed, matched, and_then, given}
 use Rattle.captures.specs.declared.State.{State}
 use Rattle.captures.specs.Effects.{Gives}
 use Rattle.matcher.specs.Matcher.{Matcher}
-use Rattle.first_phase.specs.FirstPhase.{HoldAll}
+use Rattle.get_match.specs.FirstPhase.{HoldAll}
 use Rattle.get_match.specs.Templates.{renders_given}
 use Rattle.get_match.specs.GetMatch.{is_within, TryGives}
 use Rattle.candidates.specs.Candidates.{Candidate}

@@ -9,7 +9,7 @@ ghost use Rattle.matcher.specs.Matcher.{matcher_of};
 ghost use Rattle.walk_nodes.specs.Finds.{IsMatch, FindsNodes};
 
 use crate::found::Found;
-use first_phase::kinds;
+use get_match::first_phase::kinds;
 use get_match::get_match;
 use matcher::Matcher;
 use paths::Resolved;

@@ -15,7 +15,7 @@ use Rattle.captures.specs.declared.State.{State}
 use Rattle.captures.specs.declared.Turn.{Turn}
 use Rattle.captures.proofs.TurnLaws.{goes_first, goes_further, goes_end}
 use Rattle.matcher.specs.Matcher.{matcher_of}
-use Rattle.ordered_fields.specs.Order.{AsksFor}
+use Rattle.record_fields.specs.Order.{AsksFor}
 use Rattle.matching.specs.StartingOver.{is_silent, meets}
 use Rattle.matching.specs.Matching.{ArgumentsGive, SequencesGive, MeasuredGives}
 use Rattle.matching.proofs.NodeLaws.{node_bound, node_barred}

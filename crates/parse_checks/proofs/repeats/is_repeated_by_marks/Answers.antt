@@ -1,7 +1,0 @@
--- `parse_checks::repeats::is_repeated_by_marks` meets its contract.
-use Rattle.std.proofs.Common.{arith}
-use Rattle.parse_checks.proofs.MarkLaws.{none_counted}
-use Rattle.parse_checks.proofs.repeats.is_repeated_by_marks.Goals as goal
-
-pub count_marks-requires : goal.count_marks-requires
-count_marks-requires g c = (omega (arith, c.requires), (c.requires, none_counted g.row.M))

@@ -1,7 +1,0 @@
--- `parse_checks::repeats::mark_from` meets its contract.
-use Rattle.std.proofs.Common.{◌≡◌, ◌<◌, drop}
-use Rattle.parse_checks.specs.Marks.{mark_from}
-use Rattle.parse_checks.proofs.repeats.mark_from.Given as goal
-
-abbrev pub invariant-loop-byte : goal.invariant-loop-byte
-invariant-loop-byte g l = (l.mark < g.row.M) × (mark_from g.row.M l.first l.text ≡ mark_from g.row.M l.mark (drop l.byte-index l.text))

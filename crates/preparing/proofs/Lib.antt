@@ -1,2 +1,0 @@
--- Laws of the definitions of specs/, for this crate and those above it.
-pub mod ReadyLaws

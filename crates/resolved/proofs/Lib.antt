@@ -1,2 +1,0 @@
--- Laws of the stages up to 22, for this crate and those above it.
-pub mod ResolvedLaws
