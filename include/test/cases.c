@@ -17,11 +17,12 @@ static void print_line(const example *e)
         (const uint8_t *)e->fact_text, strlen(e->fact_text), e->tree, e->tree_length, (const uint8_t *)e->text, strlen(e->text),
         e->facts, e->facts_length, e->parses, e->parses_length, (const uint8_t *)e->parse_text, strlen(e->parse_text),
         e->candidates, e->candidates_length, 0, 0, 0, out, sizeof out);
-    printf("%c ", e->letter);
     if (a.refusal != 0 || a.asked != 0) {
-        putchar('?');
+        printf("%c ?\n", e->letter);
+        return;
     }
-    for (size_t i = 0; i < a.length && a.refusal == 0 && a.asked == 0; i++) {
+    printf("%c ", e->letter);
+    for (size_t i = 0; i < a.length; i++) {
         printf("%02x", out[i]);
     }
     putchar('\n');

@@ -9,8 +9,8 @@ use Rattle.rules.specs.declared.stages.Stage.TheVariants.{Forms}
 use Rattle.rules.specs.Stages.{stage_outcome}
 use Rattle.checks.specs.declared.Rules.{Rules}
 use Rattle.parses.specs.Parses.{parses_outcome}
-use Rattle.rule_paths.specs.Resolved.{to_resolve}
-use Rattle.rule_paths.proofs.ResolvedLaws.{forms_passed, turns_pass, turns_refuse}
+use Rattle.rule_paths.specs.Accepted.{to_resolve}
+use Rattle.rule_paths.proofs.AcceptedLaws.{forms_passed, turns_pass, turns_refuse}
 use Rattle.job_checks.specs.Checks.{Job, rules_in, pairs_in, job_checks, asked_outcome, job_outcome}
 use Rattle.job_answers.specs.Answers.{list_in}
 

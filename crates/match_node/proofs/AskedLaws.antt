@@ -23,8 +23,8 @@ use Rattle.rules.specs.declared.numbering.Rule.{Rule}
 use Rattle.rule_paths.specs.Needs.{PairedRule, paired}
 use Rattle.checks.specs.declared.Rules.{Rules}
 use Rattle.checks.specs.Given.{File, found_rule, is_node_of, is_reversed}
-use Rattle.rule_paths.specs.Resolved.{to_resolve}
-use Rattle.rule_paths.proofs.ResolvedLaws.{turns_pass, turns_refuse}
+use Rattle.rule_paths.specs.Accepted.{to_resolve}
+use Rattle.rule_paths.proofs.AcceptedLaws.{turns_pass, turns_refuse}
 use Rattle.rule_match.specs.RuleMatch.{rule_match, found_match}
 use Rattle.match_node.specs.MatchNode.{asked_outcome, match_outcome, bytes_by, matched_node, buffer_after, Answered}
 

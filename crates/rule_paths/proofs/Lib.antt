@@ -3,4 +3,4 @@ pub mod NeedLaws
 pub mod FailLaws
 pub mod PairLaws
 pub mod LeftLaws
-pub mod ResolvedLaws
+pub mod AcceptedLaws

@@ -1,3 +1,3 @@
 pub mod RulePaths
 pub mod Needs
-pub mod Resolved
+pub mod Accepted

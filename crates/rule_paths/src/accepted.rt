@@ -4,7 +4,7 @@ ghost use Rattle.errors.specs.Refusals.{in_turn};
 ghost use Rattle.trees.specs.Given.{outcome_of};
 ghost use Rattle.checks.specs.Given.{given_in, file_in};
 ghost use Rattle.rule_paths.specs.Needs.{Roomy};
-ghost use Rattle.rule_paths.specs.Resolved.{to_resolve};
+ghost use Rattle.rule_paths.specs.Accepted.{to_resolve};
 
 use crate::{ResolvedRules, Tables};
 use checks::Rules;
@@ -20,7 +20,7 @@ pub struct Accepted<'a, const N: usize> {
 }
 
 // 1 to 22, and what was accepted.
-#[tactic(auto, using(crate::proofs::ResolvedLaws::paths_refuse, crate::proofs::ResolvedLaws::all_pass))]
+#[tactic(auto, using(crate::proofs::AcceptedLaws::paths_refuse, crate::proofs::AcceptedLaws::all_pass))]
 pub fn check_and_resolve<'a, const N: usize>(
     rules: Rules<'a>,
     file: GivenFile<'a>,

@@ -17,8 +17,8 @@ use Rattle.checks.specs.declared.Rules.{Rules}
 use Rattle.checks.specs.Given.{File, file_in, stage, is_range}
 use Rattle.checks.proofs.GivenLaws.{trees_accepted}
 use Rattle.parses.specs.Parses.{parses_outcome}
-use Rattle.rule_paths.specs.Resolved.{to_resolve}
-use Rattle.rule_paths.proofs.ResolvedLaws.{forms_passed, turns_pass, turns_refuse}
+use Rattle.rule_paths.specs.Accepted.{to_resolve}
+use Rattle.rule_paths.proofs.AcceptedLaws.{forms_passed, turns_pass, turns_refuse}
 use Rattle.job_checks.specs.Checks.{Job, rules_in, pairs_in, tree_in, candidates_in, rule_count, any_without_template, job_outcome}
 use Rattle.job_checks.proofs.CheckLaws.{first-both, not_false}
 use Rattle.job_answers.specs.Collected.{attempt_in}

@@ -16,7 +16,7 @@ use Rattle.checks.specs.Given.{File, given_in, given_outcome, is_range}
 use Rattle.candidates.specs.Candidates.{Candidate}
 use Rattle.parses.specs.Parses.{parses_outcome}
 use Rattle.edits.specs.declared.Edited.{Edited}
-use Rattle.rule_paths.specs.Resolved.{to_resolve}
+use Rattle.rule_paths.specs.Accepted.{to_resolve}
 use Rattle.job_checks.specs.declared.Inputs.{Inputs}
 use Rattle.job_checks.specs.Checks.{Job, job_of, given_pairs, rules_in, pairs_in, candidates_in, rule_count, any_without_template}
 use Rattle.job_answers.specs.Collected.{attempt_in}

@@ -3,7 +3,7 @@ use Rattle.std.proofs.Common.{rules, sym, arith}
 use Rattle.std.proofs.lemmas.Result.{err_from_is_err_and}
 use Rattle.checks.specs.Given.{given_in}
 use Rattle.checks.proofs.GivenLaws.{trees_accepted}
-use Rattle.rule_paths.proofs.ResolvedLaws.{given_refuses}
+use Rattle.rule_paths.proofs.AcceptedLaws.{given_refuses}
 use Rattle.rule_paths.proofs.accepted.check_and_resolve.Goals as goal
 
 pub returns-in_err-file-clause-value : goal.returns-in_err-file-clause-value

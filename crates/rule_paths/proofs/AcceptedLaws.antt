@@ -10,7 +10,7 @@ use Rattle.rules.specs.Forms.{any}
 use Rattle.checks.specs.declared.Rules.{Rules}
 use Rattle.checks.specs.Given.{File, stage, given_outcome}
 use Rattle.rule_paths.specs.RulePaths.{pair_fails, paths_outcome, resolving_rules}
-use Rattle.rule_paths.specs.Resolved.{to_resolve}
+use Rattle.rule_paths.specs.Accepted.{to_resolve}
 
 module _ (q : Rules) (f : File) where
   pub given_refuses : (r : Refusal) → err r ≡ given_outcome q f → err r ≡ in_turn (to_resolve q f)
