@@ -59,7 +59,7 @@ static void lay_fact(size_t at, uint32_t head, uint32_t first)
 /* The number of the file's tree of so many words, over so many bytes. */
 static uint32_t file(size_t words, size_t bytes)
 {
-    return ssr_check_file(tree, words, text, bytes, NULL, 0);
+    return ssr_check_file(tree, words, text, bytes, facts, 0);
 }
 
 /* Of the first words of a root over tokens of a byte each, and 0 behind them. */
@@ -115,7 +115,7 @@ static uint32_t flat(uint32_t last)
 static uint32_t with_facts(size_t words)
 {
     flat(1);
-    return ssr_check_file(tree, 3 * 16383, NULL, 0, facts, words);
+    return ssr_check_file(tree, 3 * 16383, text, 0, facts, words);
 }
 
 /* Of imports of elements from 0 on. */

@@ -303,6 +303,6 @@ static const example examples[] = {
     EXAMPLE('L', l, "f($a)f(__placeholder_a)g($a)g(__placeholder_a)", "g", "f(1 /*c*/)", "g(1)"),
     EXAMPLE('M', m, "S::f($s)S::f(__placeholder_s)h($s)h(__placeholder_s)old()old()new2()new2()", "hnew2", "old().f()",
             "new2()h(&new2())"),
-    /* without candidates or rules, on a file of no bytes */
-    {'N', NULL, NULL, n_tree, NULL, NULL, NULL, 0, 0, LENGTH(n_tree), 0, 0, 0, "", "", "", ""},
+    /* without candidates or rules, on a file of no bytes: the pointer of an empty slice is not read, and not null */
+    {'N', n_tree, n_tree, n_tree, n_tree, n_tree, n_tree, 0, 0, LENGTH(n_tree), 0, 0, 0, "", "", "", ""},
 };

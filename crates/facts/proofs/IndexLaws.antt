@@ -16,7 +16,7 @@ use Rattle.sorting.proofs.Laws.{insert-nil, insert_low, insert_high, sort_rising
 use Rattle.std.specs.Prelude.{Some, None}
 use Rattle.facts.specs.declared.Sort.{Sort}
 use Rattle.facts.specs.declared.Sort.TheVariants.{CodePath, RulePath, MethodCall, Expression, PatternPath, RecordField, Node, TemplatePath}
-use Rattle.facts.specs.Facts.{Fact, facts_of, fact_index, place_of, sort_number, has_repeated, has_gap}
+use Rattle.facts.specs.Facts.{Fact, facts_of, fact_index, numbered_place, sort_number, has_repeated, has_gap}
 use Rattle.facts.specs.Keys.{key_number, key_of, entries_from, is_later_key, index_of, IsIndex}
 use Rattle.words.proofs.TestLaws.{same_or, low_or, both_ways, and_both}
 use Rattle.facts.proofs.TestLaws.{stopped, goes_on}
@@ -256,22 +256,22 @@ module _ (l index starts : List ℕ) (w : IsIndex l index starts) where
   unfolding index_of
   index_steady = rw w.sorted (steady_exactly (facts_of l) (ranged l w.low) w.few)
 
-  module _ (sort : Sort) (e x : ℕ) where
+  module _ (sort : ℕ) (e x : ℕ) where
     abbrev key : ℕ
-    key = key_number (sort_number sort) e x
+    key = key_number sort e x
 
     -- a key that does not fit is not there
-    pub place_high : (e < 16384 → x < 268435456 → ⊥) → place_of sort e x (facts_of l) ≡ None
+    pub place_high : (sort < 16 → e < 16384 → x < 268435456 → ⊥) → numbered_place sort e x (facts_of l) ≡ None
     place_high n =
-        let a : fact_index (sort_number sort) e x (facts_of l) ≡ length (facts_of l) = absent (sort_number sort) e x (facts_of l) (ranged l w.low) (λ _ h g. n h g) in
+        let a : fact_index sort e x (facts_of l) ≡ length (facts_of l) = absent sort e x (facts_of l) (ranged l w.low) n in
         rw (a, le-ltb (length (facts_of l)) (length (facts_of l)) (omega arith))
 
-    module _ (g : x < 268435456) where
-      placed : fact_index (sort_number sort) e x (facts_of l) ≡ place key (keys_of (facts_of l))
-      placed = index_place (sort_number sort) e x (low_sort sort) g (facts_of l) (ranged l w.low)
+    module _ (s : sort < 16) (g : x < 268435456) where
+      placed : fact_index sort e x (facts_of l) ≡ place key (keys_of (facts_of l))
+      placed = index_place sort e x s g (facts_of l) (ranged l w.low)
 
       -- the first entry that is not below those of a key has the key
-      pub place_hit : (i : ℕ) → i ≡ below (key * 16384) index → i < length index → entry_key (get_or index i 0) ≡ key → place_of sort e x (facts_of l) ≡ Some (entry_place (get_or index i 0))
+      pub place_hit : (i : ℕ) → i ≡ below (key * 16384) index → i < length index → entry_key (get_or index i 0) ≡ key → numbered_place sort e x (facts_of l) ≡ Some (entry_place (get_or index i 0))
       unfolding index_of
       place_hit i n b k =
           let m : i ≡ below (key * 16384) (index_of l) = rw w.sorted at n in
@@ -281,7 +281,7 @@ module _ (l index starts : List ℕ) (w : IsIndex l index starts) where
           rw (placed, lt-ltb _ _ h.1, h.0, w.sorted, m)
 
       -- or it has another, or is not there
-      pub place_miss : (i : ℕ) → i ≡ below (key * 16384) index → (i < length index → entry_key (get_or index i 0) ≡ key → ⊥) → place_of sort e x (facts_of l) ≡ None
+      pub place_miss : (i : ℕ) → i ≡ below (key * 16384) index → (i < length index → entry_key (get_or index i 0) ≡ key → ⊥) → numbered_place sort e x (facts_of l) ≡ None
       unfolding index_of
       place_miss i n m =
           let p : place key (keys_of (facts_of l)) ≡ length (facts_of l) = entry_none (facts_of l) w.few key (rw w.sorted at (rw n at m)) in

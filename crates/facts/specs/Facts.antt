@@ -101,9 +101,13 @@ fact_index sort element select (f ∷ fs) = cond (is_key sort element select f) 
 abbrev pub is_known : ℕ → ℕ → ℕ → List Fact → Bool
 is_known sort element select fs = ltb (fact_index sort element select fs) (length fs)
 
--- that place, where the fact is there, and that fact
+-- that place, where the fact is there
+abbrev pub numbered_place : ℕ → ℕ → ℕ → List Fact → Option ℕ
+numbered_place sort element select fs = cond (is_known sort element select fs) (Some (fact_index sort element select fs)) None
+
+-- the same of a sort, and that fact
 abbrev pub place_of : Sort → ℕ → ℕ → List Fact → Option ℕ
-place_of sort element select fs = cond (is_known (sort_number sort) element select fs) (Some (fact_index (sort_number sort) element select fs)) None
+place_of sort element select fs = numbered_place (sort_number sort) element select fs
 
 abbrev pub fact_by : Sort → ℕ → ℕ → List Fact → Option Fact
 fact_by sort element select fs = slice_get fs (fact_index (sort_number sort) element select fs)

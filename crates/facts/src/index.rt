@@ -1,6 +1,6 @@
 // A list of facts with its index: the facts in the order of their keys. An entry is a key and the fact's place in the list, as one number.
 ghost use Rattle.std.specs.Prelude.{◌≡◌, ◌+◌, ◌<◌, ◌≤◌, ◌*◌, ◌/◌, not, ◌&&◌, length, slice_get};
-ghost use Rattle.facts.specs.Facts.{facts_of, selector, place_of, fact_by, has_repeated, has_gap};
+ghost use Rattle.facts.specs.Facts.{facts_of, selector, numbered_place, place_of, fact_by, has_repeated, has_gap};
 ghost use Rattle.facts.specs.Keys.{key_number, key_of, AreLow, InRange, entries_from, is_later_key, AreStarts};
 ghost use Rattle.sorting.specs.Sorted.{below, Rising};
 
@@ -182,6 +182,7 @@ impl<'a> Facts<'a> {
     }
 
     // The fact at a place of the list.
+    #[inline(always)]
     pub fn at(&self, place: usize) -> Option<Fact>
         ensures { result ≡ slice_get (facts_of self.now) place }
     {
@@ -191,22 +192,30 @@ impl<'a> Facts<'a> {
         None
     }
 
-    // The place of the first fact of a sort at an element, with a step or module.
-    pub fn place(&self, sort: Sort, element: usize, select: u32) -> Option<usize>
-        ensures { result ≡ place_of sort element select (facts_of self.now) }
+    // The place of the first fact of a sort, by its number, at an element, with a step or module.
+    pub fn place_numbered(&self, sort: u32, element: usize, select: u32) -> Option<usize>
+        ensures { result ≡ numbered_place sort element select (facts_of self.now) }
     {
         let entries = self.index;
-        if (16384 <= element) | (0x1000_0000 <= select) {
+        if (16 <= sort) | (16384 <= element) | (0x1000_0000 <= select) {
             return None;
         }
-        let key = key_number(sort.into(), element, select);
+        let key = key_number(sort, element, select);
         match entries.get(find_below(entries, self.starts, element, key * 0x4000)) {
             Some(entry) if *entry / 0x4000 == key => Some((*entry % 0x4000) as usize),
             _ => None,
         }
     }
 
-    // That fact.
+    // The same of a sort.
+    pub fn place(&self, sort: Sort, element: usize, select: u32) -> Option<usize>
+        ensures { result ≡ place_of sort element select (facts_of self.now) }
+    {
+        self.place_numbered(sort.into(), element, select)
+    }
+
+    // That fact. Inlined, so that a caller reads only those of its values that it asks for.
+    #[inline(always)]
     pub fn find(&self, sort: Sort, element: usize, select: u32) -> Option<Fact>
         ensures { result ≡ fact_by sort element select (facts_of self.now) }
     {
@@ -214,6 +223,7 @@ impl<'a> Facts<'a> {
     }
 
     // The first fact of a sort at an element, of a sort without steps and modules.
+    #[inline(always)]
     pub fn first(&self, sort: Sort, element: usize) -> Option<Fact>
         ensures { result ≡ fact_by sort element 0 (facts_of self.now) }
     {

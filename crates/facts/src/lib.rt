@@ -83,6 +83,7 @@ pub struct Fact {
 
 impl Fact {
     // The fact that a part of a list begins with; a word that is not there counts as 0.
+    #[inline(always)]
     pub fn read(part: &[u32]) -> Fact
         ensures { result ≡ fact_at part.now }
     {

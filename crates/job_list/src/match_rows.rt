@@ -17,7 +17,7 @@ pub fn row_of(node: usize, rule: usize, answer: Option<State>, module: u32) -> R
 {
     let unmatched = Row {
         node: node as u16,
-        rule: rule as u8,
+        rule: rule as u32,
         has_comments: false,
         state: Nesting::NoMatch,
         end: 0,

@@ -24,7 +24,7 @@ pub struct Siblings<'a> {
 
 // The rule's text, the marks of its pattern's elements and the limits of its placeholders; the file's text, tree and facts; and the
 // separators that may stand, or be left out, right before a closer.
-#[derive(Drop)]
+#[derive(Clone, Copy)]
 pub struct Matcher<'a> {
     pub rule: &'a [u8],
     pub marks: &'a [Mark],

@@ -26,15 +26,15 @@ pub enum Nesting {
 #[derive(Clone, Copy)]
 pub struct Row {
     pub node: u16,
-    pub rule: u8,
     pub has_comments: bool,
     pub state: Nesting,
     pub end: u16,
+    pub rule: u32,
     pub module: u32,
     pub bindings: [Option<Binding>; 8],
 }
 
-const _: () = prove!(size_of::<Row>() == 176);
+const _: () = prove!(size_of::<Row>() <= 184);
 
 // Whether a captured range holds a range.
 fn holds(captured: &Option<Binding>, start: usize, end: usize) -> bool

@@ -79,14 +79,14 @@ fn put_part(out: &mut [u8], from: usize, n: usize, end: usize, is_enclosed: bool
     start
 }
 
-// A text of `size` bytes, which stands in front of the room for its parentheses, gets them, from the last part to the first: each byte is
-// moved once.
-pub fn put_parentheses(out: &mut [u8], size: usize, parts: &[Part])
-    requires { (size ≡ total (parts_of parts.now)) × (length out.old ≡ size + added (marks_of parts.now)) }
-    ensures { out.new ≡ wrapped (parts_of parts.now) (marks_of parts.now) (take size out.old) }
+// The first `size` bytes get their parentheses, `more` bytes, from the last part to the first: each byte is moved once. What stands behind the
+// room for these stays.
+pub fn put_parentheses(out: &mut [u8], size: usize, more: usize, parts: &[Part])
+    requires { (size ≡ total (parts_of parts.now)) × (more ≡ added (marks_of parts.now)) × (size + more ≤ length out.old) }
+    ensures { out.new ≡ laid out.old 0 (wrapped (parts_of parts.now) (marks_of parts.now) (take size out.old)) }
 {
     let mut from = size;
-    let mut to = out.len();
+    let mut to = size + more;
     for part in parts.iter().rev() {
         let n = part.length as usize;
         from -= n;

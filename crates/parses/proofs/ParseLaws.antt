@@ -1,8 +1,9 @@
 -- Parses in a list of words, from the front.
 -- Assumes nothing.
-use Rattle.std.proofs.Common.{◌≡◌, refl, sym, ap, ◌∙◌, ℕ, zero, suc, ◌+◌, ◌*◌, ◌<◌, ◌≤◌, arith, true, ◌&&◌, List, [], ◌∷◌, length, drop}
+use Rattle.std.proofs.Common.{◌≡◌, refl, sym, ap, ◌∙◌, ℕ, zero, suc, ◌+◌, ◌*◌, ◌<◌, ◌≤◌, arith, true, false, ◌&&◌, List, [], ◌∷◌, length, drop, map, Some}
 use Rattle.words.specs.Fields.{parse_count}
-use Rattle.parses.specs.Parses.{parse_words, parse_at, parts_from, parses_of, is_parse, is_parse_list}
+use Rattle.parses.specs.Ranges.{ranges_of}
+use Rattle.parses.specs.Parses.{parse_words, range_words, parse_at, parts_from, parses_of, is_parse, is_parse_list, is_of, lookup}
 use Rattle.words.proofs.TestLaws.{and_both}
 
 -- words that are skipped are dropped
@@ -39,3 +40,11 @@ module _ (n : ℕ) (l : List ℕ) where
   -- what is behind a first parse is parses too
   pub list_behind : 0 < length l → is_parse_list n l ≡ true → is_parse_list n (drop (parse_words l) l) ≡ true
   list_behind h w = (and_both (is_parse n l) (is_parse_list n (drop (parse_words l) l)) (sym (list_step h) ∙ w)).1
+
+-- the look-up goes from part to part
+module _ (text : List ℕ) (kind : ℕ) (t : List ℕ) (c : List ℕ) (cs : List (List ℕ)) where
+  pub lookup_here : is_of kind t (parse_at text c) ≡ true → lookup (map (parse_at text) (c ∷ cs)) kind t ≡ Some (ranges_of (range_words c))
+  lookup_here h = rw h
+
+  pub lookup_past : is_of kind t (parse_at text c) ≡ false → lookup (map (parse_at text) (c ∷ cs)) kind t ≡ lookup (map (parse_at text) cs) kind t
+  lookup_past h = rw h

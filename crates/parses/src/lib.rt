@@ -5,8 +5,7 @@ mod parts; // parts.rt: the words from each parse on
 
 ghost use Rattle.std.specs.Prelude.{◌≡◌, true, length, option_map, ◌∷◌, [], MatchOption};
 ghost use Rattle.parses.specs.Ranges.{range_at, ranges_in, is_from, is_among};
-ghost use Rattle.parses.specs.Parses.{is_parse_list, parses_of, is_of, lookup};
-ghost use Rattle.std.specs.List.{find};
+ghost use Rattle.parses.specs.Parses.{is_parse_list, parse_at, parses_of, is_of, lookup};
 ghost use Rattle.std.specs.Iterator.{YieldsFirst, item_count};
 
 pub use parts::{Parts, parse_words};
@@ -71,6 +70,14 @@ impl<'a> Model for Parses<'a> {
     ghost invariant = { λ p. spec.is_parse_list (length p.text.now) p.words.now ≡ true };
 }
 
+// Whether the parse that a part of the words begins with is of a kind and a text. Its text is cut only where the kind is the same: most parses
+// are passed over by their kind.
+fn is_parse_of(part: &[u32], parse_text: &[u8], kind: u32, text: &[u8]) -> bool
+    ensures { result ≡ is_of kind text.now (parse_at parse_text.now part.now) }
+{
+    fields::syntax_kind(part) == kind && parts::text_of(part, parse_text) == text
+}
+
 impl<'a> Parses<'a> {
     pub fn new(words: &'a [u32], text: &'a [u8]) -> Parses<'a>
         requires { is_parse_list (length text.now) words.now ≡ true }
@@ -110,18 +117,16 @@ impl<'a> Parses<'a> {
         }
     }
 
-    // The first parse of a kind and a text.
-    fn find(&self, kind: u32, text: &[u8]) -> Option<Parse<'a>>
-        ensures { result ≡ find (is_of kind text.now) self.now }
-    {
-        self.iter().find(|parse| parse.is_of(kind, text))
-    }
-
-    // Its node ranges.
+    // The node ranges of the first parse of a kind and a text.
     pub fn find_parse(&self, kind: u32, text: &[u8]) -> Option<&'a [[u32; 2]]>
         ensures { option_map (λ r. ranges_in r.now) result ≡ lookup self.now kind text.now }
     {
-        self.find(kind, text).map(|parse| parse.ranges)
+        for part in Parts::of(self.words) {
+            if is_parse_of(part, self.text, kind, text) {
+                return Some(parts::ranges_of(part));
+            }
+        }
+        None
     }
 }
 

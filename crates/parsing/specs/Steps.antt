@@ -1,14 +1,14 @@
 -- What each function of the code reads: from a state at the tokens left before to a state at those left behind, or to a refusal.
 -- Assumes nothing.
 use Rattle.std.specs.Prelude.{ℕ, ◌+◌, ◌*◌, ◌≤◌, ◌≡◌, Bool, true, false, List, [], ◌∷◌, ◌++◌, length, Some, Result, Ok, Err}
-use Rattle.arrayvec.specs.ArrayVec.{ArrayVec}
 use Rattle.errors.specs.declared.Refusal.{Refusal}
 use Rattle.errors.specs.declared.Refusal.TheVariants.{MissingParenthesis}
 use Rattle.errors.specs.Refusals.{Outcome}
 use Rattle.tokens.specs.declared.Token.{Token}
+use Rattle.parsing.specs.declared.arrays.Nots.{Nots}
 use Rattle.parsing.specs.declared.patterns.Placeholder.{Placeholder}
 use Rattle.parsing.specs.Reading.{Var, Element, placeholder, vars, Next, go, stop, Open, State, refused, top, constraint, kind_open, closed, inside, is_text, run, follow, ended, ended_as}
-use Rattle.parsing.specs.Patterns.{var_of}
+use Rattle.parsing.specs.Patterns.{nots_of, var_of}
 
 -- with more constraints
 abbrev pub mores : Open → List ℕ → Open
@@ -45,15 +45,15 @@ module _ (text : List ℕ) where
   ConstraintRead ts (Ok m) left = (length left + m + 4 ≤ length ts) × ((p : Open) (n : ℕ) → Leads (constraint p n) ts (closed p (n + m) n) left)
   ConstraintRead ts (Err r) left = (p : Open) (n : ℕ) → Stops (constraint p n) ts r
 
-  abbrev pub BracesRead : List Token → Result (ArrayVec ℕ × ℕ) Refusal → List Token → Type 0
+  abbrev pub BracesRead : List Token → Result (Nots × ℕ) Refusal → List Token → Type 0
   BracesRead ts (Ok b) left =
-      (length left + 5 * length b.0.items + 1 ≤ length ts)
-      × ((acc : List Element) (p : Open) → run text acc (inside p) ts ≡ follow (ended text acc (mores p b.0.items) b.1) (λ acc s. run text acc s left))
+      (length left + 5 * length (nots_of b.0) + 1 ≤ length ts)
+      × ((acc : List Element) (p : Open) → run text acc (inside p) ts ≡ follow (ended text acc (mores p (nots_of b.0)) b.1) (λ acc s. run text acc s left))
   BracesRead ts (Err r) left = (p : Open) → Stops (inside p) ts r
 
   abbrev pub PlaceholderRead : State → List Token → Result Placeholder Refusal → List Token → Type 0
   PlaceholderRead s ts (Ok p) left =
-      (length left + 5 * length p.nots.items + 1 ≤ length ts)
+      (length left + 5 * length (nots_of p.nots) + 1 ≤ length ts)
       × ((acc : List Element) → run text acc s ts ≡ follow (ended_var acc (var_of p)) (λ acc s. run text acc s left))
   PlaceholderRead s ts (Err r) left = Stops s ts r
 

@@ -4,11 +4,11 @@ use Rattle.std.specs.Prelude.{List, Result, Ok, Err}
 use Rattle.errors.specs.declared.Refusal.{Refusal}
 use Rattle.parsing.specs.declared.patterns.Pattern.{Pattern}
 use Rattle.parsing.specs.Reading.{Var}
-use Rattle.parsing.specs.Patterns.{vars_at}
+use Rattle.parsing.specs.Patterns.{placeholders_of, vars_at}
 
 -- the placeholders of a pattern, in list order
 abbrev pub vars_of : Pattern → List Var
-vars_of p = vars_at p.placeholders.items
+vars_of p = vars_at (placeholders_of p.placeholders)
 
 -- the same of an answer
 abbrev pub placeholders_read : Result Pattern Refusal → Result (List Var) Refusal

@@ -1,17 +1,17 @@
 // The placeholders of a list that was read.
 ghost use Rattle.std.specs.Prelude.{◌≡◌, ◌+◌, ◌≤◌, [], length};
-ghost use Rattle.parsing.specs.Patterns.{var_of, vars_at, all_nots, has_name_text, name_position};
+ghost use Rattle.parsing.specs.Patterns.{placeholders_of, nots_of, var_of, vars_at, all_nots, has_name_text, name_position};
 
-use arrayvec::ArrayVec;
+use crate::arrays::{Nots, Placeholders};
 use errors::Refusal;
 use words::texts::Range;
 
 // A placeholder: its bytes, its name's, and of each constraint how many `not`s stand around `kind(literal)`.
-#[derive(Default, Drop)]
+#[derive(Clone, Copy, Default)]
 pub struct Placeholder {
     pub whole: Range,
     pub name: Range,
-    pub nots: ArrayVec<u8, 50>,
+    pub nots: Nots,
 }
 
 impl Placeholder {
@@ -24,12 +24,12 @@ impl Placeholder {
 }
 
 // The placeholders in list order, and the list's text, where their names stand. A list of 255 tokens has at most fifty constraints.
-#[derive(Drop)]
+#[derive(Clone, Copy)]
 pub struct Pattern<'a> {
     pub text: &'a [u8],
-    pub placeholders: ArrayVec<Placeholder, 8>,
-    ghost eight: { length placeholders.items ≤ 8 },
-    ghost fifty: { length (all_nots (vars_at placeholders.items)) ≤ 50 },
+    pub placeholders: Placeholders,
+    ghost eight: { length (placeholders_of placeholders) ≤ 8 },
+    ghost fifty: { length (all_nots (vars_at (placeholders_of placeholders))) ≤ 50 },
 }
 
 impl<'a> Pattern<'a> {
@@ -43,7 +43,7 @@ impl<'a> Pattern<'a> {
     {
         Pattern {
             text,
-            placeholders: ArrayVec::new(),
+            placeholders: Placeholders::new(),
         }
     }
 
@@ -53,20 +53,21 @@ impl<'a> Pattern<'a> {
     {
         let text = self.text;
         self.placeholders
+            .as_slice()
             .iter()
             .position(|p| p.is_named(text, name))
     }
 
     // The end of a placeholder: its name must be new, and it the eighth at most.
     pub(crate) fn add(&mut self, placeholder: Placeholder) -> Result<(), Refusal>
-        requires { length (all_nots (vars_of self.old)) + length placeholder.nots.items ≤ 50 }
+        requires { length (all_nots (vars_of self.old)) + length (nots_of placeholder.nots) ≤ 50 }
         ensures added { Added self.old.text.now (vars_of self.old) (var_of placeholder) result (vars_of self.new) }
         ensures text { self.new.text ≡ self.old.text }
     {
         if self.find_name(placeholder.name.of(self.text)).is_some() {
             return Err(Refusal::RepeatedName);
         }
-        if self.placeholders.is_full() {
+        if 8 <= self.placeholders.len() {
             return Err(Refusal::NinthPlaceholder);
         }
         self.placeholders.push(placeholder);

@@ -5,8 +5,8 @@ ghost use Rattle.parsing.specs.Vars.{placeholders_read};
 ghost use Rattle.parsing.specs.Reading.{dollar, brace, is_text, placeholders};
 ghost use Rattle.parsing.specs.Steps.{TextRead, KindRead, ConstraintRead, BracesRead, PlaceholderRead};
 
+use crate::arrays::Nots;
 use crate::patterns::{Pattern, Placeholder};
-use arrayvec::ArrayVec;
 use errors::Refusal;
 use syntax::kinds::{COLON, DOLLAR, IDENT, L_CURLY, R_CURLY};
 use tokens::{Token, TokenList, Tokens};
@@ -80,12 +80,12 @@ impl<'a> Reader<'a> {
     }
 
     // In braces, behind the first token: the constraints, and the byte behind `}`.
-    fn read_constraints(&mut self) -> Result<(ArrayVec<u8, 50>, usize), Refusal>
+    fn read_constraints(&mut self) -> Result<(Nots, usize), Refusal>
         requires { length self.old.tokens ≤ 252 }
         ensures read { BracesRead self.old.text.now self.old.tokens result self.new.tokens }
         ensures text { self.new.text ≡ self.old.text }
     {
-        let mut nots = ArrayVec::new();
+        let mut nots = Nots::new();
         while let Some(token) = self.tokens.next() {
             match token.kind {
                 COLON => nots.push(self.read_constraint()?),
@@ -132,7 +132,7 @@ impl<'a> Reader<'a> {
                     end: token.range.end,
                 },
                 name: token.range,
-                nots: ArrayVec::new(),
+                nots: Nots::new(),
             }),
             L_CURLY => self.read_braces(start),
             _ => Err(Refusal::NeitherNameNorBrace),

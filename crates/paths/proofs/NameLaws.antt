@@ -15,7 +15,7 @@ use Rattle.words.proofs.TextLaws.{part_none}
 use Rattle.syntax.specs.Trees.{Elems, none, token, node}
 use Rattle.syntax.specs.Accessors.{children, text_of, some, between, find_node, first_token}
 use Rattle.parsing.specs.declared.patterns.Pattern.{Pattern}
-use Rattle.parsing.specs.Patterns.{var_of}
+use Rattle.parsing.specs.Patterns.{placeholders_of, var_of}
 use Rattle.parsing.specs.Vars.{vars_of}
 use Rattle.rust_code.specs.StandIns.{has_stand_in, stand_in_position}
 use Rattle.rust_code.proofs.StandInLaws.{by_none}
@@ -26,9 +26,9 @@ low_if : (b : Bool) (i n : ℕ) → (b ≡ true → i < n) → IfSome (cond b (S
 low_if true i n h = h refl
 low_if false i n h = tt
 
-pub stand_in_low : (text : List ℕ) (p : Pattern) (x : List ℕ) → length p.placeholders.items ≤ 8 → IfSome (stand_in_position text (vars_of p) x) (λ slot. slot < 8)
+pub stand_in_low : (text : List ℕ) (p : Pattern) (x : List ℕ) → length (placeholders_of p.placeholders) ≤ 8 → IfSome (stand_in_position text (vars_of p) x) (λ slot. slot < 8)
 stand_in_low text p x h =
-    low_if (ltb (position_or_len (has_stand_in text x) (vars_of p)) (length (vars_of p))) _ 8 (λ t. omega (arith, length-map p.placeholders.items var_of, ltb-true _ _ t))
+    low_if (ltb (position_or_len (has_stand_in text x) (vars_of p)) (length (vars_of p))) _ 8 (λ t. omega (arith, length-map (placeholders_of p.placeholders) var_of, ltb-true _ _ t))
 
 -- F asks g of the children of the first path among siblings, and then of its qualifiers' in turn
 record Climbs (g F : Elems → Bool) : Type 0 where

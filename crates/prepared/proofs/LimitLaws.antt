@@ -13,7 +13,7 @@ use Rattle.std.proofs.lemmas.Option.{slice_get_past, slice_get-get_or}
 use Rattle.words.proofs.TestLaws.{same_or, low_or}
 use Rattle.parsing.specs.declared.patterns.Placeholder.{Placeholder}
 use Rattle.parsing.specs.Reading.{Var}
-use Rattle.parsing.specs.Patterns.{var_of, vars_at}
+use Rattle.parsing.specs.Patterns.{nots_of, var_of, vars_at}
 use Rattle.matcher.specs.declared.marks.Limit.{Limit}
 use Rattle.matcher.specs.Marks.{allows}
 use Rattle.prepared.specs.Placeholders.{holds, all_hold, constraints_of, has_remainder}
@@ -58,7 +58,7 @@ constraints_none [] slot h = refl
 constraints_none (v ∷ vs) zero h = absurd (omega arith)
 constraints_none (v ∷ vs) (suc slot) h = constraints_none vs slot (omega arith)
 
-constraints_there : (ps : List Placeholder) (slot : ℕ) (p : Placeholder) → slot < length ps → p ≡ get_or ps slot p → constraints_of (vars_at ps) slot ≡ p.nots.items
+constraints_there : (ps : List Placeholder) (slot : ℕ) (p : Placeholder) → slot < length ps → p ≡ get_or ps slot p → constraints_of (vars_at ps) slot ≡ nots_of p.nots
 unfolding constraints_of
 constraints_there [] slot p h e = absurd (omega arith)
 constraints_there (x ∷ ps) zero p h e = rw (← e)
@@ -73,7 +73,7 @@ Laid ps n limits = (k : ℕ) (d : Limit) → k < 8 → get_or limits k d ≡ lim
 pub laid_none : (ps : List Placeholder) → Laid ps 0 (replicate 8 (record { literal = false; other = false }))
 laid_none ps k d h = get_or-replicate {A = Limit} 8 k _ d h ∙ rw (le-ltb k 0 (omega arith))
 
-pub laid_more : (ps : List Placeholder) (n : ℕ) (limits : List Limit) (p : Placeholder) (limit : Limit) → n < length limits → n < length ps → p ≡ get_or ps n p → limit ≡ limit_of p.nots.items
+pub laid_more : (ps : List Placeholder) (n : ℕ) (limits : List Limit) (p : Placeholder) (limit : Limit) → n < length limits → n < length ps → p ≡ get_or ps n p → limit ≡ limit_of (nots_of p.nots)
     → Laid ps n limits → Laid ps (n + 1) (set limits n limit)
 laid_more ps n limits p limit long h e m w k d l =
     same_or k n

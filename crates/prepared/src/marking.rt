@@ -1,5 +1,5 @@
 // Marks: what a rule says of the elements of its pattern.
-ghost use Rattle.std.specs.Prelude.{◌≡◌, ◌<◌, ◌≤◌, ◌/◌, length, ℕ, slice_get, Some, IfSome};
+ghost use Rattle.std.specs.Prelude.{◌≡◌, ◌<◌, ◌≤◌, ◌/◌, length, take, ℕ, slice_get, Some, IfSome};
 ghost use Rattle.paths.specs.Steps.{root_of};
 ghost use Rattle.matcher.specs.declared.marks.Mark.{Mark};
 ghost use Rattle.prepared.specs.Placeholders.{placeholder_at};
@@ -40,12 +40,12 @@ fn lay_marks(resolved: &Resolved<'_>, marks: &mut [Mark])
     }
 }
 
-// The marks of a resolved pattern, in the first of a slice, one for each element.
-pub fn mark_pattern<'m>(resolved: &Resolved<'_>, marks: &'m mut [Mark]) -> &'m [Mark]
+// Marks the elements of a resolved pattern, in the first of a slice, one for each.
+pub fn mark_pattern(resolved: &Resolved<'_>, marks: &mut [Mark])
     requires { length resolved.now.words / 3 ≤ length marks.old }
-    ensures { Marked resolved.now.side (root_of resolved.now) result.now }
+    ensures marks_len_unchanged { length marks.new ≡ length marks.old }
+    ensures marked { Marked resolved.now.side (root_of resolved.now) (take (length resolved.now.words / 3) marks.new) }
 {
     let n = resolved.tree().len();
     lay_marks(resolved, &mut marks[..n]);
-    &marks[..n]
 }

@@ -70,7 +70,7 @@ fn end_rendering<T: Template, const P: usize>(
     rerendering::end_rendering(bindings, frame, template, kind, parses, &mut parts, out, at)
 }
 
-// The same, where templates of few fragments need few parts.
+// The same, in room for at most four times the fragments: it is cleared for each row.
 fn end_template<T: Template, const N: usize>(
     bindings: &[Option<Binding>; 8],
     frame: &Frame,
@@ -85,8 +85,18 @@ fn end_template<T: Template, const N: usize>(
     ensures ended { Ended bindings.now frame.now (T.fragments template.now) kind parses.now out.old at out.new result }
     ensures out_len_unchanged { (length out.new ≡ length out.old) × (take frame.now.begin out.new ≡ take frame.now.begin out.old) }
 {
-    if template.len() <= 64 {
+    let count = template.len();
+    if count <= 64 {
         return end_rendering::<T, 64>(bindings, frame, template, kind, parses, out, at);
+    }
+    if count <= 256 {
+        return end_rendering::<T, 256>(bindings, frame, template, kind, parses, out, at);
+    }
+    if count <= 1024 {
+        return end_rendering::<T, 1024>(bindings, frame, template, kind, parses, out, at);
+    }
+    if count <= 4096 {
+        return end_rendering::<T, 4096>(bindings, frame, template, kind, parses, out, at);
     }
     end_rendering::<T, N>(bindings, frame, template, kind, parses, out, at)
 }

@@ -28,9 +28,8 @@ impl Bytes {
         self.put(&word.to_le_bytes())
     }
 
-    // A number is stored by its four lowest bytes.
     fn number(&mut self, number: usize) -> Option<()> {
-        self.word((number % 0x1_0000_0000) as u32)
+        self.word(low(number))
     }
 
     fn words(&mut self, words: &[u32]) -> Option<()> {
@@ -39,6 +38,20 @@ impl Bytes {
         }
         Some(())
     }
+
+    // Words, and then 0, nine in all: so many has the longest answer that is only words.
+    fn nine_words(&mut self, words: &[u32]) -> Option<()> {
+        self.words(words)?;
+        for _ in words.len()..9 {
+            self.word(0)?;
+        }
+        Some(())
+    }
+}
+
+// A number is stored by its four lowest bytes.
+fn low(number: usize) -> u32 {
+    (number % 0x1_0000_0000) as u32
 }
 
 // What an operation answers.
@@ -90,18 +103,20 @@ impl Answer for RawCode {
 
 impl Answer for BuiltRules {
     fn lay(&self, out: &mut Bytes) -> Option<()> {
-        out.word(self.refusal)?;
-        out.number(self.rules)?;
-        out.word(self.found)?;
-        out.number(self.pair)?;
-        out.number(self.form)?;
-        out.word(self.template)
+        out.nine_words(&[
+            self.refusal,
+            low(self.rules),
+            self.found,
+            low(self.pair),
+            low(self.form),
+            self.template,
+        ])
     }
 }
 
 impl Answer for ResolvedElement {
     fn lay(&self, out: &mut Bytes) -> Option<()> {
-        out.words(&[
+        out.nine_words(&[
             self.refusal,
             self.found,
             self.resolved,
@@ -117,8 +132,7 @@ impl Answer for ResolvedElement {
 
 impl Answer for EditedNumbers {
     fn lay(&self, out: &mut Bytes) -> Option<()> {
-        out.words(&[self.refusal, self.asked, self.kind])?;
-        out.number(self.length)
+        out.nine_words(&[self.refusal, self.asked, self.kind, low(self.length)])
     }
 }
 

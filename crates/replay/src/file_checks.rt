@@ -1,4 +1,4 @@
-// The operations on a file with rules. Each list of words has room for 512.
+// The operations on a file with rules. Each list of words has room for 512, a buffer for 256 bytes.
 use crate::buffers;
 use crate::records::Parts;
 use ssr::{job_exports, match_exports};
@@ -9,7 +9,9 @@ pub fn match_node(parts: Parts) -> bool {
     let words = parts.words::<512>(1);
     let tree = parts.words::<512>(4);
     let facts = parts.words::<512>(6);
-    let mut out = buffers::buffer(parts, 12);
+    let Some(mut out) = buffers::buffer::<256>(parts, 12) else {
+        return false;
+    };
     let answer = match_exports::ssr_match_node(
         directory.as_slice(),
         words.as_slice(),
@@ -36,7 +38,9 @@ pub fn job(parts: Parts) -> bool {
     let facts = parts.words::<512>(6);
     let parses = parts.words::<512>(7);
     let candidates = parts.words::<512>(9);
-    let mut out = buffers::buffer(parts, 13);
+    let Some(mut out) = buffers::buffer::<256>(parts, 13) else {
+        return false;
+    };
     let answer = job_exports::ssr_job(
         directory.as_slice(),
         words.as_slice(),
@@ -63,7 +67,9 @@ pub fn walk(parts: Parts) -> bool {
     let tree = parts.words::<512>(4);
     let facts = parts.words::<512>(6);
     let parses = parts.words::<512>(7);
-    let mut out = buffers::buffer(parts, 12);
+    let Some(mut out) = buffers::buffer::<256>(parts, 12) else {
+        return false;
+    };
     let answer = job_exports::ssr_walk(
         directory.as_slice(),
         words.as_slice(),

@@ -1,4 +1,4 @@
-// The operations on token lists. A list has room for 512 words.
+// The operations on token lists. A list has room for 512 words, a buffer for 4,096 bytes.
 use crate::records::Parts;
 use crate::{answer_bytes, buffers};
 
@@ -26,7 +26,9 @@ pub fn check_pair(parts: Parts) -> bool {
 // Whether writing raw code into a buffer answers and leaves it as expected.
 pub fn raw_code(parts: Parts) -> bool {
     let words = parts.words::<512>(0);
-    let mut out = buffers::buffer(parts, 2);
+    let Some(mut out) = buffers::buffer::<4096>(parts, 2) else {
+        return false;
+    };
     let answer = ssr::ssr_raw_code(words.as_slice(), parts.at(1), out.as_mut_slice());
     buffers::is_right(parts, 3, out.as_slice(), &answer)
 }

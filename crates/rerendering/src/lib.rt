@@ -80,7 +80,7 @@ fn measure_parts<T: Template>(
 }
 
 // The text from b up to a place is rendered again, with parentheses round the parts that require them.
-#[tactic(auto, using(crate::proofs::AgainLaws::again_put, crate::proofs::AgainLaws::room_again))]
+#[tactic(auto, using(crate::proofs::AgainLaws::room_again))]
 fn put_again(
     ranges: &[[u32; 2]],
     parts: &mut [Part],
@@ -95,7 +95,7 @@ fn put_again(
     if out.len() - at < more {
         return None;
     }
-    parentheses::put_parentheses(&mut out[b..at + more], at - b, parts);
+    parentheses::put_parentheses(&mut out[b..], at - b, more, parts);
     Some(at + more)
 }
 

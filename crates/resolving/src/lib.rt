@@ -3,7 +3,7 @@
 
 ghost use Rattle.std.specs.Prelude.{◌≡◌, ◌≤◌};
 ghost use Rattle.rule_paths.specs.Needs.{Roomy};
-ghost use Rattle.resolving.specs.Resolving.{in_tree, in_rule, in_rules, resolved_element};
+ghost use Rattle.resolving.specs.Resolving.{element_of, in_rule, in_rules, resolved_element};
 
 use checks::Rules;
 use errors::Refusal;
@@ -33,22 +33,18 @@ pub struct Element {
     pub contains_self: bool,
 }
 
-// An element of a resolved tree.
-fn find_in_tree(resolved: &Resolved, element: usize) -> Option<Element>
-    ensures { result ≡ in_tree element resolved.now }
+// What an element of a resolved tree is.
+fn element_of(resolved: &Resolved, element: usize) -> Element
+    ensures { result ≡ element_of resolved.now element }
 {
-    let tree = resolved.tree();
-    if tree.len() <= element {
-        return None;
-    }
-    Some(Element {
+    Element {
         path: resolved.path_at(element),
         call: resolved.call_at(element),
-        contains_self: tree.root().contains(ElementKind::Token, SELF_KW),
-    })
+        contains_self: resolved.tree().root().contains(ElementKind::Token, SELF_KW),
+    }
 }
 
-// An element of a side of a rule.
+// An element of a side of a rule. A tree that has no such element is not resolved.
 fn find_in_rule<const N: usize>(
     rule: &ResolvedRule<N>,
     asked: Question,
@@ -57,8 +53,12 @@ fn find_in_rule<const N: usize>(
     ensures { result ≡ in_rule rule.now asked.side asked.element }
 {
     match asked.side {
-        0 => find_in_tree(&rule.resolve_pattern(tables), asked.element),
-        1 => find_in_tree(&rule.resolve_template(tables)?, asked.element),
+        0 if asked.element < rule.pattern_tree().len() => {
+            Some(element_of(&rule.resolve_pattern(tables), asked.element))
+        }
+        1 if asked.element < rule.template_tree()?.len() => {
+            Some(element_of(&rule.resolve_template(tables)?, asked.element))
+        }
         _ => None,
     }
 }

@@ -21,13 +21,12 @@ pub fn is_inside(row: &Row, k: usize, slot: usize) -> bool
 
 // The first row from j on, and before the end, that is nested in a slot of row k.
 pub fn next_nested(rows: &[Row], k: usize, slot: usize, j: usize, end: usize) -> Option<usize>
-    requires { end ≤ length rows.now }
     ensures { MatchOption result
         ((i : ℕ) → j ≤ i → i < end → is_nested rows.now k slot i ≡ false)
         (λ n. (j ≤ n) × (n < end) × (is_nested rows.now k slot n ≡ true)
         × ((i : ℕ) → j ≤ i → i < n → is_nested rows.now k slot i ≡ false)) }
 {
-    for i in j..end {
+    for i in j..end.min(rows.len()) {
         if is_inside(&rows[i], k, slot) {
             return Some(i);
         }

@@ -82,7 +82,17 @@ impl<'a, const N: usize> ResolvedRule<'a, N> {
         self.pair.resolve(Side::Pattern, rule.form, tables).unwrap()
     }
 
-    // The tree of its template, resolved, where it has one.
+    // The tree of its template, where it has one.
+    #[tactic(auto, using(crate::proofs::FailLaws::template_there))]
+    pub fn template_tree(&self) -> Option<Tree<'a>>
+        ensures { option_map (λ t. t.words.now) result ≡ option_map (λ f. tree_of sides.Template f self.now.pair) (template_form self.now.rule.form self.now.rule.template) }
+    {
+        let rule = self.rule;
+        let form = passed::template_form(rule.form, rule.template)?;
+        Some(self.pair.tree(Side::Template, form))
+    }
+
+    // That tree, resolved.
     #[tactic(auto, using(crate::proofs::FailLaws::template_there, crate::proofs::LeftLaws::template_resolves))]
     pub fn resolve_template<'t>(&'t self, tables: &'t mut Tables<N>) -> Option<Resolved<'t>>
         ensures value { result ≡ option_map (tree_at self.now.pair sides.Template) (template_form self.now.rule.form self.now.rule.template) }

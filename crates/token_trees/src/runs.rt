@@ -38,6 +38,7 @@ pub fn run_from<'a>(x: &Matcher, p: Part<'a>, c: Part<'a>) -> Run<'a>
     ensures value { run_of result ≡ run x.now.rule.now x.now.file.now (elems_of p.entry) (elems_of c.entry) }
     ensures p_in_bounds { IsWithin result.p p.entry }
     ensures c_in_bounds { IsWithin result.c c.entry × (length result.c.words.now < length c.entry.words.now) }
+    ensures last_in_bounds { IsWithin result.last c.entry × (3 ≤ length result.last.words.now) }
     ensures at_stop { IfSome result.stop (λ kind. 3 ≤ length result.c.words.now) }
 {
     let stop = p.skip_trivia().first_token();

@@ -62,7 +62,7 @@ impl<'a> TokenList<'a> {
 }
 
 // The tokens of a list that are left, seen as the list of them.
-#[derive(Drop)]
+#[derive(Clone, Drop)]
 pub struct Tokens<'a> {
     words: &'a [u32],
     at: usize,

@@ -1,9 +1,10 @@
 // Whether words are a well-formed tree over a text: 18, 19 and 20.
-ghost use Rattle.std.specs.Prelude.{◌≡◌, ◌≤◌, ◌<◌, ◌*◌, ◌/◌, leb, length, IfOk, IfErr, MatchOption};
+ghost use Rattle.std.specs.Prelude.{◌≡◌, ◌-◌, ◌≤◌, ◌<◌, ◌*◌, ◌/◌, leb, length, IfOk, IfErr, MatchOption};
 ghost use Rattle.errors.specs.Refusals.{ok, err};
 ghost use Rattle.syntax.specs.Parts.{span, rest_words};
 ghost use Rattle.syntax.specs.Trees.{tiles, is_tree_of, depth};
 ghost use Rattle.syntax.specs.Rows.{in_row, is_ranged, is_token_part, is_node_head, is_node_part, is_element, every, is_root};
+ghost use Rattle.syntax.specs.Accessors.{rest};
 ghost use Rattle.syntax.specs.Views.{elems_of};
 ghost use Rattle.syntax.specs.Checks.{tree_outcome};
 
@@ -137,18 +138,32 @@ fn is_tree(words: &[u32], bytes: usize) -> bool
     is_root(words, bytes) && are_elements(words)
 }
 
+// What follows the first element. A token is passed as in `rest`.
+#[tactic(auto, using(syntax::proofs::SiblingLaws::token_long, syntax::proofs::SiblingLaws::token_rest))]
+fn behind_first(c: Part) -> Part
+    ensures value { elems_of result ≡ rest (elems_of c.entry) }
+    ensures shorter { length result.words.now ≤ length c.entry.words.now - 3 }
+{
+    if c.is_token() {
+        return c.behind(1);
+    }
+    c.rest()
+}
+
 // Whether no element of a part is deeper than a number of levels. An element with no more below it than that is not looked into, and the
 // stack grows with the levels alone.
 #[tactic(auto, using(crate::proofs::DepthLaws::shallow_gone, crate::proofs::DepthLaws::shallow_zero, crate::proofs::DepthLaws::shallow_next, crate::proofs::DepthLaws::shallow_deep, crate::proofs::DepthLaws::shallow_few))]
 fn is_shallow(part: Part, levels: usize) -> bool
     ensures { result ≡ leb (depth (elems_of part.entry)) levels }
 {
-    for c in part {
+    let mut c = part;
+    while !c.is_empty() {
         if levels < parts::span_of(c.words) {
             if levels == 0 || !is_shallow(c.children(), levels - 1) {
                 return false;
             }
         }
+        c = behind_first(c);
     }
     true
 }

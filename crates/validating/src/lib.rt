@@ -27,6 +27,7 @@ fn defines_all(pattern: &Pattern<'_>, template: &Pattern<'_>) -> bool
     let text = template.text;
     template
         .placeholders
+        .as_slice()
         .iter()
         .all(|p| defines(pattern, text, p))
 }
@@ -35,7 +36,11 @@ fn defines_all(pattern: &Pattern<'_>, template: &Pattern<'_>) -> bool
 fn has_constraint(template: &Pattern<'_>) -> bool
     ensures { result ≡ has_constraint (vars_of template.now) }
 {
-    template.placeholders.iter().any(|p| !p.nots.is_empty())
+    template
+        .placeholders
+        .as_slice()
+        .iter()
+        .any(|p| !p.nots.is_empty())
 }
 
 // Two lists that were read: 14, then 15.

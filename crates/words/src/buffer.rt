@@ -26,7 +26,8 @@ pub fn finish(out: &mut [u8], n: usize)
     clear_from(&mut out[..end], n);
 }
 
-// Lays src at a place and gives the place behind it; where it does not fit, nothing changes.
+// Lays src at a place and gives the place behind it; where it does not fit, nothing changes. Byte by byte: a call for a few bytes costs more,
+// and `memmove` is no name that the archive needs.
 pub fn put(out: &mut [u8], at: usize, src: &[u8]) -> Option<usize>
     ensures value { result ≡ place_after (length out.old) at (length src.now) }
     ensures out_after { out.new ≡ laid_if_room out.old at src.now }
@@ -35,7 +36,9 @@ pub fn put(out: &mut [u8], at: usize, src: &[u8]) -> Option<usize>
     if out.len() < end {
         return None;
     }
-    out[at..end].copy_from_slice(src);
+    for i in 0..src.len() {
+        out[at + i] = src[i];
+    }
     Some(end)
 }
 

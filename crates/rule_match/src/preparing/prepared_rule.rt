@@ -50,13 +50,15 @@ impl<'t, const N: usize> Prepared<'t, N> {
     {
         let work = &mut tables.resolving;
         let resolved = (&*rule).resolve_pattern(&mut *work);
-        let marks = marking::mark_pattern(&resolved, &mut tables.marks);
+        let marks: &'t mut [Mark] = &mut tables.marks;
+        marking::mark_pattern(&resolved, &mut *marks);
         let template = rule.resolve_template(work);
+        let pattern = rule.pattern_tree();
         Prepared {
             rule,
-            pattern: rule.pattern_tree(),
+            pattern,
             code: rule.pair().code(Side::Pattern),
-            marks,
+            marks: &marks[..pattern.len()],
             limits: limits::limits_of(rule.pattern()),
             template,
         }

@@ -1,6 +1,6 @@
 -- `exports::constraints_of` meets its contract.
 use Rattle.std.proofs.Common.{◌≡◌, ap, length, drop, arith, ◌+◌, ◌-◌}
-use Rattle.parsing.specs.Patterns.{var_of, vars_at}
+use Rattle.parsing.specs.Patterns.{placeholders_of, var_of, vars_at}
 use Rattle.parsing.specs.Vars.{vars_of}
 use Rattle.rust_code.proofs.Laws.{vars_step, vars_end}
 use Rattle.ssr.proofs.Laws.{so_far_fits, so_far_more, so_far_end}
@@ -8,7 +8,7 @@ use Rattle.ssr.proofs.list_answers.constraints_of.Goals as goal
 
 pub slice_bounds-nots-end : goal.slice_bounds-nots-end
 slice_bounds-nots-end c =
-    let ps = c.args.pattern.now.placeholders.items in
+    let ps = placeholders_of c.args.pattern.now.placeholders in
     let l = c.loop-placeholder in
     let p = c.placeholder-item.result in
     let items = c.as_slice-placeholder-items.ensures.value in
@@ -18,7 +18,7 @@ slice_bounds-nots-end c =
 
 pub loop-placeholder-preserved : goal.loop-placeholder-preserved
 loop-placeholder-preserved c =
-    let ps = c.args.pattern.now.placeholders.items in
+    let ps = placeholders_of c.args.pattern.now.placeholders in
     let l = c.loop-placeholder in
     let p = c.placeholder-item.result in
     let items = c.as_slice-placeholder-items.ensures.value in
@@ -31,6 +31,6 @@ pub returns : goal.returns
 returns c =
     let l = c.loop-placeholder in
     let items = c.as_slice-placeholder-items.ensures.value in
-    let n = vars_end c.args.pattern.now.placeholders.items l.placeholder-index (omega (arith, ap length items)) in
+    let n = vars_end (placeholders_of c.args.pattern.now.placeholders) l.placeholder-index (omega (arith, ap length items)) in
     let e = so_far_end (vars_of c.args.pattern.now) l.nots l.count (rw n at l.invariant) in
     rw (e.0, e.1)

@@ -13,4 +13,5 @@ invariant-loop-next l = record {
   c_within : IsWithin l.next-iterator l.c;
   c_left : length l.next-iterator.words.now + 3 ≤ length l.c.words.now;
   last_within : IsWithin l.last l.c;
+  last_is : 3 ≤ length l.last.words.now;
 }
