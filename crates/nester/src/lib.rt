@@ -34,7 +34,7 @@ pub struct Row {
     pub bindings: [Option<Binding>; 8],
 }
 
-const _: () = prove!(size_of::<Row>() <= 184);
+const _: () = prove!(size_of::<Row>() == 180);
 
 // Whether a captured range holds a range.
 fn holds(captured: &Option<Binding>, start: usize, end: usize) -> bool

@@ -1,14 +1,14 @@
 -- A text in its parts, those marked in parentheses.
 -- Assumes nothing.
-use Rattle.std.proofs.Common.{◌≡◌, refl, sym, ap, ◌∙◌, ℕ, ◌+◌, ◌-◌, ◌≤◌, arith, Bool, true, false, List, [], ◌∷◌, ◌++◌, append_assoc, length, take, drop, length-append, length-drop}
+use Rattle.std.proofs.Common.{◌≡◌, refl, sym, ap, ◌∙◌, ℕ, ◌+◌, ◌-◌, ◌≤◌, arith, Bool, true, false, List, [], ◌∷◌, ◌++◌, append_assoc, length, take, drop, append-nil, length-append, length-drop}
 use mathlib.Core.List.{flatten}
-use lib.ListN.{take-append-drop, drop_of_length-le}
+use lib.ListN.{take-append-drop, drop_of_length-le, length-map}
 use lib.Seq.{drop-drop, length-take-le, take-length, take_at, drop_at}
 use Rattle.words.specs.Buffer.{laid}
 use Rattle.words.specs.Texts.{close_text}
 use Rattle.parentheses.specs.Parentheses as spec
 use Rattle.parentheses.specs.Parentheses.{total, enclosed, extra, wrapped, added, enclosed_each}
-use Rattle.parentheses.specs.Parts.{parts_of, marks_of}
+use Rattle.parentheses.specs.Parts.{part_of, parts_of, marks_of}
 use Rattle.parentheses.specs.declared.Part.{Part}
 use Rattle.parentheses.proofs.LaidLaws.{length_bytes, laid_nothing, laid_before, bytes_inside, bytes_laid}
 use Rattle.parentheses.proofs.SumLaws.{total_push, total_part, added_push, added_part}
@@ -149,9 +149,25 @@ module _ {d : List ℕ} {size more : ℕ} {parts : List Part} (whole : size ≡ 
         }
 
   -- none is left
-  pub moved_all : {from to : ℕ} {out : List ℕ} → Moved d size parts [] from to out → out ≡ laid d 0 (wrapped (parts_of parts) (marks_of parts) (take size d))
+  pub moved_all_laid : {from to : ℕ} {out : List ℕ} → Moved d size parts [] from to out → out ≡ laid d 0 (wrapped (parts_of parts) (marks_of parts) (take size d))
   unfolding total added
-  moved_all {from} {to} moved =
+  moved_all_laid {from} {to} moved =
       let a : from ≡ 0 = moved.from_is in
       let b : to ≡ 0 = omega (arith, moved.to_is, a) in
       moved.out_is ∙ rw (a, b) refl
+
+-- where there is room for no more, the text in its parentheses is all that stands there
+pub laid_all : (d : List ℕ) (size : ℕ) (parts : List Part) → size ≡ total (parts_of parts) → length d ≡ size + added (marks_of parts)
+    → laid d 0 (wrapped (parts_of parts) (marks_of parts) (take size d)) ≡ wrapped (parts_of parts) (marks_of parts) (take size d)
+laid_all d size parts whole room =
+    let w = wrapped (parts_of parts) (marks_of parts) (take size d) in
+    let l : length (take size d) ≡ size = length-take-le size d (omega arith) in
+    let m : length (marks_of parts) ≡ length (parts_of parts) = length-map parts (λ p. p.is_enclosed) ∙ sym (length-map parts part_of) in
+    let k : length w ≡ length d = length-wrapped (parts_of parts) (marks_of parts) (take size d) m (omega (arith, l)) ∙ omega (arith, l) in
+    let z : drop (0 + length w) d ≡ [] = drop_of_length-le d {i = 0 + length w} (omega (arith, k)) in
+    rw z (append-nil w)
+
+module _ {d : List ℕ} {size : ℕ} {parts : List Part} (whole : size ≡ total (parts_of parts)) (room : length d ≡ size + added (marks_of parts)) where
+  -- so, where none is left, that text alone
+  pub moved_all : {from to : ℕ} {out : List ℕ} → Moved d size parts [] from to out → out ≡ wrapped (parts_of parts) (marks_of parts) (take size d)
+  moved_all moved = moved_all_laid whole refl (omega arith) moved ∙ laid_all d size parts whole room

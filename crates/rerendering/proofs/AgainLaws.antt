@@ -74,11 +74,18 @@ module _ (ranges : List NodeRange) (parts : List CodePart) (b at : ℕ) (out : L
     pub room_again : added (code.marks_of marked) ≡ more
     room_again = rw (marks, is)
 
-    pub again_put : (after : List ℕ) → at + more ≤ length out
+    pub again_put : (t out' : List ℕ) → at + more ≤ length out → t ≡ between b at out
+        → out' ≡ laid out b (wrapped (code.parts_of marked) (code.marks_of marked) t) → PutAgain ranges ps b at out out' (Some (at + more))
+    again_put t out' room u h =
+        let e : leb (b + length text) (length out) ≡ true = le-leb (b + length text) (length out) (omega (arith, text_length)) in
+        record { answers = rw (e, text_length); leaves = rw e (h ∙ rw (same, marks, u)) }
+
+    -- the same where the text in its parentheses is laid first in the part behind b
+    pub again_put_behind : (after : List ℕ) → at + more ≤ length out
         → after ≡ laid (behind_of out b) 0 (wrapped (code.parts_of marked) (code.marks_of marked) (take (at - b) (behind_of out b)))
         → PutAgain ranges ps b at out (with_behind out b after) (Some (at + more))
-    again_put after room h =
-        let e : leb (b + length text) (length out) ≡ true = le-leb (b + length text) (length out) (omega (arith, text_length)) in
-        let t : take (at - b) (behind_of out b) ≡ between b at out = take-take (at - b) (length out - b) (drop b out) (omega arith) in
-        let w : after ≡ laid (behind_of out b) 0 text = rw (same, marks, t) at h in
-        record { answers = rw (e, text_length); leaves = rw (e, w) (laid_behind out b text (omega arith)) }
+    again_put_behind after room h =
+        let t = take (at - b) (behind_of out b) in
+        let w = wrapped (code.parts_of marked) (code.marks_of marked) t in
+        again_put t (with_behind out b after) room (take-take (at - b) (length out - b) (drop b out) (omega arith))
+        (ap (λ (l : List ℕ). with_behind out b l) h ∙ laid_behind out b w (omega arith))

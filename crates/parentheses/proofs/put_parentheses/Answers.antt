@@ -1,6 +1,6 @@
 -- `parentheses::put_parentheses` meets its contract: the parts behind those that are left stand where they belong.
 use Rattle.std.proofs.Common.{◌≡◌, sym, [], arith}
-use Rattle.parentheses.proofs.WrapLaws.{moved_none, moved_fits, moved_one, moved_all}
+use Rattle.parentheses.proofs.WrapLaws.{moved_none, moved_fits, moved_one, moved_all_laid}
 use Rattle.parentheses.proofs.put_parentheses.Goals as goal
 
 pub loop-part-init : goal.loop-part-init
@@ -22,4 +22,4 @@ loop-part-preserved c = moved_one c.requires.0 c.requires.1 c.requires.2 _ _ c.i
 pub returns : goal.returns
 returns c =
     let e : c.loop-part.part-iterator.iter.rest.now ≡ [] = sym (rw c.in-None.ensures.steps.0 at c.loop-part.invariant.left_is) in
-    moved_all c.requires.0 c.requires.1 c.requires.2 (rw e at c.loop-part.invariant)
+    moved_all_laid c.requires.0 c.requires.1 c.requires.2 (rw e at c.loop-part.invariant)
